@@ -1,0 +1,4 @@
+pub mod Status
+pub mod Sums
+pub mod Shifts
+pub mod Products

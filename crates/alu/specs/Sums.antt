@@ -1,0 +1,47 @@
+-- Sums and differences over a width; carry and overflow are facts about whole numbers.
+use Prim.Native.Nat.{ℕ, _+_, _-_, _%_}
+use mathlib.Core.Bool.{Bool, true, false, _||_}
+use lib.Dec.{eqb, ltb, leb}
+use Rattle.bits.specs.Bits.{if_then_else_, bit}
+use Rattle.memory.specs.declared.Width.{Width}
+use Rattle.memory.specs.declared.Width.the-variants.{Byte, Word}
+use Rattle.memory.specs.Memory.{modulus}
+use Rattle.alu.specs.declared.Outcome.{Outcome}
+use Rattle.alu.specs.Status.{half, raised, compared, judged, carried}
+
+-- The signed sum lies outside the width: each raised number has half the values too much, so the sum has all of them.
+unfoldable pub sum-overflows : Width → ℕ → ℕ → Bool
+sum-overflows w a b =
+    ltb (raised w a + raised w b) (half w) || leb (modulus w + half w) (raised w a + raised w b)
+
+-- The signed difference d - s lies outside the width.
+unfoldable pub difference-overflows : Width → ℕ → ℕ → Bool
+difference-overflows w d s =
+    ltb (raised w d + half w) (raised w s) || leb (raised w s + half w) (raised w d)
+
+-- a + b: C is the carry out of the width.
+unfoldable pub sum : Width → ℕ → ℕ → ℕ → Outcome
+sum w a b st =
+    record { value = result; st = carried (leb (modulus w) (a + b)) (sum-overflows w a b) (judged w result st) }
+  where
+    result : ℕ
+    result = (a + b) % modulus w
+
+-- d - s: C is 1 exactly if d ≥ s, unsigned.
+unfoldable pub difference : Width → ℕ → ℕ → ℕ → Outcome
+difference w d s st =
+    record { value = result; st = carried (leb s d) (difference-overflows w d s) (judged w result st) }
+  where
+    result : ℕ
+    result = (d + (65536 - s)) % modulus w
+
+-- NEG is 0 less the operand: so C exactly if the operand is 0, OV exactly if it is 8000h.
+unfoldable pub negated : ℕ → ℕ → Outcome
+negated v st = difference Word 0 v st
+
+-- ABS judges the operand, clears C, and sets OV exactly if it is 8000h.
+unfoldable pub absolute : ℕ → ℕ → Outcome
+absolute v st =
+    record {
+      value = if bit 15 v then (65536 - v) % 65536 else v;
+      st = carried false (eqb v 32768) (compared Word v 0 st) }

@@ -1,0 +1,23 @@
+-- `bits::bit` meets its contract: below 32 the code is the definition; from 32 on, no power fits under a 32-bit number.
+use Prim.Native.Nat.{_<_, _≤_, _^_, _/_, _%_}
+use mathlib.Core.Path.{_≡_}
+use native.Mathlib.Nat.{div-eq-of-lt, lt-of-lt-of-le}
+use lib.Pow.{pow-mono}
+use borrow.Author.Needs.{needs}
+use Rattle.bits.specs.Bits.{bit}
+use Rattle.bits.proofs.bit.Statement.{statement}
+use Rattle.bits.proofs.bit.Tie as tie
+
+shr-result : tie.Need-shr-result
+shr-result c = search needs
+
+returns : tie.Need-returns
+unfolding bit
+returns c = search needs
+
+returns-2 : tie.Need-returns-2
+unfolding bit
+returns-2 c = rw (div-eq-of-lt (lt-of-lt-of-le (c .before .fits .w .fits) (pow-mono (c .if1 .left))))
+
+pub bit-spec : {M : Type 1} → statement M
+bit-spec = tie.close (tie.spec shr-result returns returns-2)

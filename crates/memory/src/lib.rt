@@ -1,0 +1,59 @@
+// Bytes and big-endian words of the lent memory.
+ghost use mathlib.Core.Path.{_≡_};
+ghost use Prim.Native.Nat.{_+_, _*_};
+ghost use Rattle.memory.specs.Memory as Memory;
+
+// The width of an operand.
+pub enum Width {
+    Byte,
+    Word,
+}
+
+// A byte as a number of 16 bits.
+fn wide(byte: u8) -> u16
+    ensures { λ r. ⌜ r ≡ byte ⌝ }
+{
+    byte as u16
+}
+
+// The word of two bytes, the high one first.
+fn word(high: u8, low: u8) -> u16
+    ensures { λ r. ⌜ r ≡ high * 256 + low ⌝ }
+{
+    wide(high) * 256 + wide(low)
+}
+
+// What an access of this width at this address reads.
+pub fn load(memory: &[u8], width: Width, address: u16) -> u16
+    requires { ⌜ Memory.Installed (now memory) ⌝ }
+    ensures { λ r. ⌜ r ≡ Memory.loaded width (now (memory .entry)) address ⌝ }
+{
+    match width {
+        Width::Byte => {
+            let at = (address % 16384) as usize;
+            wide(memory[at])
+        }
+        Width::Word => {
+            let at = (address / 2 * 2 % 16384) as usize;
+            word(memory[at], memory[at + 1])
+        }
+    }
+}
+
+// Stores the lowest byte, or the word, at this address.
+pub fn store(memory: &mut [u8], width: Width, address: u16, value: u16)
+    requires { ⌜ Memory.Installed (now memory) ⌝ }
+    ensures { λ _. ⌜ now (memory .exit) ≡ Memory.stored width (now (memory .entry)) address value ⌝ }
+{
+    match width {
+        Width::Byte => {
+            let at = (address % 16384) as usize;
+            memory[at] = (value % 256) as u8;
+        }
+        Width::Word => {
+            let at = (address / 2 * 2 % 16384) as usize;
+            memory[at] = (value / 256) as u8;
+            memory[at + 1] = (value % 256) as u8;
+        }
+    }
+}

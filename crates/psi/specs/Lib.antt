@@ -1,0 +1,5 @@
+pub mod Psi
+pub mod Clock
+pub mod Pins
+pub mod Cru
+pub mod Formed

@@ -1,0 +1,91 @@
+// The TMS 9901: its clock, its CRU bits and its request code.
+ghost use mathlib.Core.Path.{_≡_};
+ghost use Rattle.psi.specs.Psi as Own;
+ghost use Rattle.psi.specs.Clock as Clock;
+ghost use Rattle.psi.specs.Pins as Pins;
+ghost use Rattle.psi.specs.Cru as Cru;
+
+// The state. `mask` holds the control bit at weight 1 and request n's mask at weight 2^n; `direction` (1: output) and
+// `latch` have port n at weight 2^n; `reading` is the read register.
+pub struct Psi {
+    pub mask: u16,
+    pub direction: u16,
+    pub latch: u16,
+    pub load: u16,
+    pub decrementer: u16,
+    pub reading: u16,
+    pub phase: u16,
+    pub pending: u16,
+}
+
+impl Psi {
+    // CRU bits of the PSI.
+    pub const BITS: u16 = 32;
+    // Bits of a clock register, and the largest number that they hold.
+    pub const CLOCK_BITS: u16 = 14;
+    pub const CLOCK_LARGEST: u16 = 16383;
+    // Cycles of one tick.
+    pub const TICK_CYCLES: u16 = 64;
+
+    // All fields 0.
+    pub fn blank() -> Self
+        ensures { λ r. ⌜ r ≡ Own.blank ⌝ }
+    {
+        Self {
+            mask: 0,
+            direction: 0,
+            latch: 0,
+            load: 0,
+            decrementer: 0,
+            reading: 0,
+            phase: 0,
+            pending: 0,
+        }
+    }
+}
+
+// A number as R12 holds it.
+pub struct CruBase(pub u16);
+
+// The number of a CRU bit.
+pub struct CruBit(pub u16);
+
+// What reading a CRU bit gives: its value, and the PSI after the access.
+pub struct Sensed {
+    pub value: bool,
+    pub psi: Psi,
+}
+
+// One pin record: 22 levels and the cycles before the step.
+pub struct Record {
+    pub levels: u32,
+    pub cycles: u16,
+}
+
+// The parts of a record.
+pub fn split(word: u32) -> Record
+    ensures { λ r. ⌜ r ≡ Pins.parted word ⌝ }
+{
+    Record {
+        levels: word % 4194304,
+        cycles: (word / 4194304) as u16,
+    }
+}
+
+impl CruBase {
+    // The bit that R12 points at: divided by two, modulo 2048.
+    pub fn bit(self) -> CruBit
+        ensures { λ r. ⌜ r ≡ Cru.first-bit self ⌝ }
+    {
+        CruBit(self.0 / 2 % 2048)
+    }
+}
+
+impl CruBit {
+    // The bit `d` bits further; bit numbers wrap.
+    pub fn plus(self, d: u16) -> CruBit
+        ensures { λ r. ⌜ r ≡ Cru.beyond self d ⌝ }
+    {
+        CruBit((((self.0 as u32) + (d as u32)) % 2048) as u16)
+    }
+}
