@@ -47,4 +47,5 @@ unfoldable pub shifted : ShiftOp → ℕ → ℕ → ℕ → Outcome
 shifted op v n st =
     record {
       value = shift-value op v (amount n);
-      st = put carry (shift-carry op v (amount n)) (shift-overflow op v (amount n) (compared Word (shift-value op v (amount n)) 0 st)) }
+      st = put carry (shift-carry op v (amount n)) (shift-overflow op v (amount n) (compared Word (shift-value op v (amount n)) 0 st));
+    }

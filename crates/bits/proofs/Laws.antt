@@ -45,5 +45,5 @@ module _ (w n x : ℕ) (fits : w < 2 ^ 16) (small : n < 16) (binary : x < 2) whe
   shifted-back = rw high-kept (div-mul-le-self w (2 ^ n))
 
   pub shifts-exact :
-    (w / 2 ^ n / 2 * 2 + x) * 2 ^ n % 2 ^ 32 + (w - w / 2 ^ n * 2 ^ n % 2 ^ 32) ≡ (w / 2 ^ n / 2 * 2 + x) * 2 ^ n + w % 2 ^ n
+      (w / 2 ^ n / 2 * 2 + x) * 2 ^ n % 2 ^ 32 + (w - w / 2 ^ n * 2 ^ n % 2 ^ 32) ≡ (w / 2 ^ n / 2 * 2 + x) * 2 ^ n + w % 2 ^ n
   shifts-exact = rw (made-kept, high-kept, ← mod-eq-sub-div-mul w (2 ^ n))

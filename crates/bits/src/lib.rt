@@ -7,11 +7,7 @@ ghost use Rattle.bits.specs.Bits as Bits;
 pub fn bit(w: u32, n: u32) -> bool
     ensures { λ r. ⌜ r ≡ Bits.bit n w ⌝ }
 {
-    if n < 32 {
-        (w >> n) % 2 == 1
-    } else {
-        false
-    }
+    if n < 32 { (w >> n) % 2 == 1 } else { false }
 }
 
 // `w` with bit `n` made `on`.

@@ -31,9 +31,9 @@ unfoldable pub sensed-value : Psi → ℕ → ℕ → Bool
 sensed-value s v n =
     if eqb n 0 then control s
     else if ltb n 16 then
-      (if not (control s) then request-level s v n
-      else if eqb n 15 then not (eqb (request s v) 0)
-      else bit (n - 1) (s .reading))
+    (if not (control s) then request-level s v n
+    else if eqb n 15 then not (eqb (request s v) 0)
+    else bit (n - 1) (s .reading))
     else if ltb n bits then port-level s v (n - 16)
     else true
 
@@ -42,7 +42,8 @@ unfoldable pub sensed : Psi → ℕ → CruBit → Sensed
 sensed s v b =
     record {
       value = sensed-value s v (b .0);
-      psi = if ltb (b .0) 16 then s else if ltb (b .0) bits then refreshed s else s }
+      psi = if ltb (b .0) 16 then s else if ltb (b .0) bits then refreshed s else s;
+    }
 
 -- what the PSI is after bit n was written, by the table's rows
 unfoldable pub driven : Psi → CruBit → Bool → Psi
@@ -60,8 +61,8 @@ driven s b x = written (b .0)
     written n =
         if eqb n 0 then controlled
         else if ltb n 16 then
-          (if not (control s) then masked n
-          else if eqb n 15 then (if x then s else with-ports 0 0 s)
-          else with-load (put (n - 1) x (s .load)) s)
+        (if not (control s) then masked n
+        else if eqb n 15 then (if x then s else with-ports 0 0 s)
+        else with-load (put (n - 1) x (s .load)) s)
         else if ltb n bits then refreshed (with-ports (put (n - 16) true (s .direction)) (put (n - 16) x (s .latch)) s)
         else s

@@ -23,6 +23,7 @@ impl Psi {
     pub const BITS: u16 = 32;
     // Bits of a clock register, and the largest number that they hold.
     pub const CLOCK_BITS: u16 = 14;
+
     pub const CLOCK_LARGEST: u16 = 16383;
     // Cycles of one tick.
     pub const TICK_CYCLES: u16 = 64;

@@ -1,0 +1,13 @@
+-- The code is the definition.
+use mathlib.Core.Path.{refl}
+use borrow.Author.Needs.{needs}
+use Rattle.psi.specs.Cru.{first-bit}
+use Rattle.psi.proofs.CruBase.bit.Statement.{statement}
+use Rattle.psi.proofs.CruBase.bit.Tie as tie
+
+returns : tie.Need-returns
+unfolding first-bit
+returns c = refl
+
+pub bit-spec : {M : Type 1} → statement M
+bit-spec = tie.close (tie.spec returns)

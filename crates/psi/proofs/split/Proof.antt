@@ -1,0 +1,16 @@
+-- The code is the definition.
+use mathlib.Core.Path.{refl}
+use borrow.Author.Needs.{needs}
+use Rattle.psi.specs.Pins.{parted}
+use Rattle.psi.proofs.split.Statement.{statement}
+use Rattle.psi.proofs.split.Tie as tie
+
+cast-t4 : tie.Need-cast-t4
+cast-t4 c = search needs
+
+returns : tie.Need-returns
+unfolding parted
+returns c = refl
+
+pub split-spec : {M : Type 1} → statement M
+split-spec = tie.close (tie.spec cast-t4 returns)
