@@ -1,0 +1,78 @@
+-- Cases: a start, pin records, and what the run must leave. A case is a number computed from the definitions.
+use Prim.Native.Nat.{ℕ, _+_, _*_, _^_, _-_}
+use mathlib.Core.Bool.{Bool, true, false, _&&_}
+use mathlib.Core.List.{List, [], _∷_}
+use lib.ListN.{length, replicate}
+use lib.Dec.{eqb}
+use Rattle.memory.specs.declared.Width.the-variants.{Word}
+use Rattle.memory.specs.Memory.{size, loaded, stored}
+use Rattle.psi.specs.declared.Psi.{Psi}
+use Rattle.psi.specs.Clock.{advanced}
+use Rattle.psi.specs.Pins.{code}
+use Rattle.machine.specs.declared.State.{State}
+use Rattle.machine.specs.declared.RunAnswer.{RunAnswer}
+use Rattle.machine.specs.Run.{RunResult, run}
+
+-- a word at an address
+pub record Poke : Type 0 where
+  pub at : ℕ
+  pub word : ℕ
+
+-- the memory of zeros with these words in it
+unfoldable pub poked : List Poke → List ℕ
+poked [] = replicate size 0
+poked (p ∷ ps) = stored Word (poked ps) (p .at) (p .word)
+
+pub data Case : Type 0 where
+  -- from a state and a memory of these words, the records one by one, no stop: the answer, and words that memory then has
+  replayed : State → List Poke → List ℕ → RunAnswer → List Poke → Case
+  -- the pending flag after so many cycles
+  clocked : Psi → ℕ → ℕ → Case
+  -- the request code at these levels
+  coded : Psi → ℕ → ℕ → Case
+
+unfoldable pub same-psi : Psi → Psi → Bool
+same-psi p q =
+    eqb (p .mask) (q .mask)
+    && (eqb (p .direction) (q .direction)
+    && (eqb (p .latch) (q .latch)
+    && (eqb (p .load) (q .load)
+    && (eqb (p .decrementer) (q .decrementer)
+    && (eqb (p .reading) (q .reading)
+    && (eqb (p .phase) (q .phase)
+    && eqb (p .pending) (q .pending)))))))
+
+unfoldable pub same-answer : RunAnswer → RunAnswer → Bool
+same-answer a b =
+    eqb (a .number) (b .number)
+    && (eqb (a .steps) (b .steps)
+    && (eqb (a .unassigned) (b .unassigned)
+    && (eqb (a .state .wp) (b .state .wp)
+    && (eqb (a .state .pc) (b .state .pc)
+    && (eqb (a .state .st) (b .state .st)
+    && (eqb (a .state .flags) (b .state .flags)
+    && same-psi (a .state .psi) (b .state .psi)))))))
+
+unfoldable pub has : List ℕ → List Poke → Bool
+has m [] = true
+has m (p ∷ ps) = eqb (loaded Word m (p .at)) (p .word) && has m ps
+
+-- no stop address: an odd one
+abbrev pub never : ℕ
+never = 1
+
+unfoldable pub holds : Case → Bool
+holds (replayed s start records answer after) = judge (run (poked start) s records (length records) never)
+  where
+    judge : RunResult → Bool
+    judge r = same-answer (r .answer) answer && has (r .memory) after
+holds (clocked p n pending) = eqb (advanced n p .pending) pending
+holds (coded p v c) = eqb (code p v) c
+
+unfoldable pub every : List Case → Bool
+every [] = true
+every (c ∷ cs) = holds c && every cs
+
+-- all pins high, so many cycles
+abbrev pub quiet : ℕ → ℕ
+quiet cycles = 2 ^ 22 - 1 + cycles * 2 ^ 22

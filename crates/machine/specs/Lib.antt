@@ -1,0 +1,10 @@
+pub mod State
+pub mod Micro
+pub mod Perform
+pub mod Operands
+pub mod Groups
+pub mod Execute
+pub mod Step
+pub mod Run
+pub mod Cases
+pub mod Marked

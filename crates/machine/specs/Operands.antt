@@ -1,0 +1,43 @@
+-- Registers in memory, and the addresses of general operands.
+use Prim.Native.Nat.{ℕ, _+_, _*_, _%_}
+use mathlib.Core.Bool.{Bool}
+use lib.Dec.{eqb}
+use Rattle.bits.specs.Bits.{if_then_else_}
+use Rattle.memory.specs.declared.Width.{Width}
+use Rattle.memory.specs.declared.Width.the-variants.{Byte, Word}
+use Rattle.memory.specs.Memory.{bytes}
+use Rattle.isa.specs.declared.Operand.{Operand}
+use Rattle.machine.specs.State.{Registers}
+use Rattle.machine.specs.Micro.{Micro, done, _>>=_, _>>_, registers, fetched, load, store}
+
+-- Rn is the word at WP + 2n.
+abbrev pub register-at : ℕ → ℕ → ℕ
+register-at wp n = (wp + 2 * n) % 65536
+
+unfoldable pub register : ℕ → Micro ℕ
+register n = registers >>= λ r. load Word (register-at (r .wp) n)
+
+unfoldable pub set-register : ℕ → ℕ → Micro (Unit {0})
+set-register n x = registers >>= λ r. store Word (register-at (r .wp) n) x
+
+-- The address of a general operand: the register itself, the address in it, a further word with or without an index, or
+-- the address in the register, which then rises by the operand's bytes.
+unfoldable pub operand : Width → Operand → Micro ℕ
+operand w o =
+    registers >>= λ r.
+    if eqb (o .mode) 0 then done (register-at (r .wp) (o .register))
+    else if eqb (o .mode) 1 then register (o .register)
+    else if eqb (o .mode) 2 then indexed
+    else stepped
+  where
+    indexed : Micro ℕ
+    indexed = do
+      base ← fetched
+      index ← (if eqb (o .register) 0 then done 0 else register (o .register))
+      done ((base + index) % 65536)
+
+    stepped : Micro ℕ
+    stepped = do
+      a ← register (o .register)
+      set-register (o .register) ((a + bytes w) % 65536)
+      done a

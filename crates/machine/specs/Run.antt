@@ -1,0 +1,100 @@
+-- A run of steps, power up, and when the two calls refuse.
+use Prim.Native.Nat.{ℕ, zero, suc, _+_}
+use mathlib.Core.Bool.{Bool, true, false, not}
+use mathlib.Core.List.{List, [], _∷_}
+use lib.ListN.{length}
+use lib.Dec.{eqb, ltb}
+use Rattle.bits.specs.Bits.{if_then_else_}
+use Rattle.memory.specs.Memory.{size}
+use Rattle.machine.specs.declared.State.{State}
+use Rattle.machine.specs.declared.Deed.{Deed}
+use Rattle.machine.specs.declared.Deed.the-variants.{Ordinary, Unassigned, Switched, Returned}
+use Rattle.machine.specs.declared.RunAnswer.{RunAnswer}
+use Rattle.machine.specs.declared.StateAnswer.{StateAnswer}
+use Rattle.machine.specs.State.{Machine, blank, well-formed}
+use Rattle.machine.specs.Perform.{Performed, perform}
+use Rattle.machine.specs.Step.{Kind, was-reset, was-load, was-idle, was-level, ran, step, boundary, reset}
+
+-- whether a step met an unassigned word, as a number
+unfoldable pub missed : Kind → ℕ
+missed was-reset = 0
+missed was-load = 0
+missed was-idle = 0
+missed (was-level k) = 0
+missed (ran Ordinary) = 0
+missed (ran Unassigned) = 1
+missed (ran Switched) = 0
+missed (ran Returned) = 0
+
+-- a machine, the steps done and how many of them met an unassigned word
+pub record Ran : Type 0 where
+  pub machine : Machine
+  pub steps : ℕ
+  pub unassigned : ℕ
+
+abbrev pub at-once : Machine → Ran
+at-once m = record { machine = m; steps = 0; unassigned = 0 }
+
+abbrev pub one-more : Kind → Ran → Ran
+one-more k r = record { machine = r .machine; steps = suc (r .steps); unassigned = missed k + r .unassigned }
+
+-- At most n steps, one record each; before each step the run stops if PC equals the stop address.
+unfoldable pub runs : ℕ → ℕ → List ℕ → Machine → Ran
+runs stop zero rs m = at-once m
+runs stop (suc n) [] m = at-once m
+runs stop (suc n) (r ∷ rs) m =
+    elim (eqb (m .state .pc) stop) [
+      | true ↦ at-once m
+      | false ↦ one-more (step r m .value) (runs stop n rs (step r m .machine))
+    ]
+
+-- The run's refusals in the order checked: memory's size, the state, more steps than records.
+unfoldable pub run-refusal : List ℕ → State → List ℕ → ℕ → ℕ
+run-refusal m s records steps =
+    if not (eqb (length m) size) then 1
+    else if not (well-formed s) then 2
+    else if ltb (length records) steps then 3
+    else 0
+
+-- the answer and the memory after the call; a refusal returns the state as given, with no steps, and stores nothing
+pub record RunResult : Type 0 where
+  pub answer : RunAnswer
+  pub memory : List ℕ
+
+unfoldable pub run : List ℕ → State → List ℕ → ℕ → ℕ → RunResult
+run m s records steps stop =
+    if eqb (run-refusal m s records steps) 0 then accepted else refused
+  where
+    done : Ran
+    done = runs stop steps records (record { state = s; memory = m })
+
+    accepted : RunResult
+    accepted =
+        record {
+          answer = record { number = 0; state = done .machine .state; steps = done .steps; unassigned = done .unassigned };
+          memory = done .machine .memory;
+        }
+
+    refused : RunResult
+    refused = record { answer = record { number = run-refusal m s records steps; state = s; steps = 0; unassigned = 0 }; memory = m }
+
+-- Power up refuses a memory of another size, with the blank state.
+unfoldable pub power-up-refusal : List ℕ → ℕ
+power-up-refusal m = if not (eqb (length m) size) then 1 else 0
+
+pub record StateResult : Type 0 where
+  pub answer : StateAnswer
+  pub memory : List ℕ
+
+-- Power up: blank PSI, then the reset entry from blank registers, with no-sample set.
+unfoldable pub power-up : List ℕ → StateResult
+power-up m = if eqb (power-up-refusal m) 0 then accepted else refused
+  where
+    entered : Machine
+    entered = perform 0 (boundary reset) (record { state = blank; memory = m }) .machine
+
+    accepted : StateResult
+    accepted = record { answer = record { number = 0; state = entered .state }; memory = entered .memory }
+
+    refused : StateResult
+    refused = record { answer = record { number = power-up-refusal m; state = blank }; memory = m }

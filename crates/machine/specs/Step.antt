@@ -1,0 +1,86 @@
+-- One step: the clock, the code, sampling and entries, or one instruction.
+use Prim.Native.Nat.{ℕ, _+_, _-_, _*_, _/_, _%_}
+use mathlib.Core.Bool.{Bool, true, false}
+use mathlib.Core.List.{List}
+use lib.Dec.{eqb, ltb, leb}
+use Rattle.bits.specs.Bits.{if_then_else_, bit, put}
+use Rattle.psi.specs.Clock as Clock
+use Rattle.psi.specs.Pins as Pins
+use Rattle.psi.specs.declared.Record.{Record}
+use Rattle.machine.specs.declared.State.{State}
+use Rattle.machine.specs.declared.Deed.{Deed}
+use Rattle.machine.specs.State.{Registers, Machine, idle, no-sample, with-psi}
+use Rattle.machine.specs.Micro.{Micro, done, to-st, to-flags, _>>=_, _>>_, registers, set, fetched}
+use Rattle.machine.specs.Perform.{Performed, perform}
+use Rattle.machine.specs.Groups.{set-status, masked, switch}
+use Rattle.machine.specs.Execute.{execute, allowance}
+
+-- what stands at a step's boundary
+pub data Signal : Type 0 where
+  reset load none : Signal
+  level : ℕ → Signal
+
+-- Code 0 or 1: reset; 2: LOAD; 3, 4, 5, 6: level 1, 2, 3, 4; 7: nothing.
+unfoldable pub signal : ℕ → Signal
+signal c =
+    if ltb c 2 then reset
+    else if eqb c 2 then load
+    else if ltb c 7 then level (c - 2)
+    else none
+
+-- Reset is taken at every boundary; LOAD, and a level that the mask admits, unless the no-sample flag is set.
+unfoldable pub admitted : Registers → Signal → Signal
+admitted r reset = reset
+admitted r load = if bit no-sample (r .flags) then none else load
+admitted r (level k) =
+    if bit no-sample (r .flags) then none
+    else if leb k (r .st % 16) then level k
+    else none
+admitted r none = none
+
+-- what a step was
+pub data Kind : Type 0 where
+  was-reset was-load was-idle : Kind
+  was-level : ℕ → Kind
+  ran : Deed → Kind
+
+-- An entry: the context switch, then ST; idle is cleared and no-sample set.
+unfoldable pub enter : ℕ → (ℕ → ℕ) → Micro (Unit {0})
+enter vector f = do
+  switch vector
+  set-status f
+  r ← registers
+  set to-flags (put idle false (r .flags))
+
+-- No entry: no-sample is cleared; an idle machine does nothing more; any other executes one instruction.
+unfoldable pub proceed : Micro Kind
+proceed = do
+  r ← registers
+  set to-flags (put no-sample false (r .flags))
+  (if bit idle (r .flags) then done was-idle
+      else (do
+        w ← fetched
+        d ← execute allowance w
+        done (ran d)))
+
+-- Vectors: reset 0, level k 4k, LOAD 3FFCh. Reset makes ST 0, LOAD the mask 0, level k the mask k - 1.
+unfoldable pub boundary : Signal → Micro Kind
+boundary reset = enter 0 (λ st. 0) >> done was-reset
+boundary load = enter 16380 (masked 0) >> done was-load
+boundary (level k) = enter (4 * k) (masked (k - 1)) >> done (was-level k)
+boundary none = proceed
+
+-- the machine after the clock has advanced
+abbrev pub clocked : ℕ → Machine → Machine
+clocked cycles m = record { state = with-psi (Clock.advanced cycles (m .state .psi)) (m .state); memory = m .memory }
+
+-- the microprogram of a step from a machine whose clock has advanced
+unfoldable pub stepping : ℕ → Machine → Micro Kind
+stepping levels m = registers >>= λ r. boundary (admitted r (signal (Pins.code (m .state .psi) levels)))
+
+-- one step with a pin record: what it was, and the machine after it
+unfoldable pub step : ℕ → Machine → Performed Kind
+step word m = perform (p .levels) (stepping (p .levels) (clocked (p .cycles) m)) (clocked (p .cycles) m)
+  where
+    p : Record
+    p = Pins.parted word

@@ -1,0 +1,56 @@
+// The machine's state, and in specs/ all definitions of what the machine does.
+ghost use mathlib.Core.Path.{_≡_};
+ghost use Rattle.machine.specs.State as Own;
+use psi::Psi;
+
+// WP, PC and ST; `flags` has weight 1 where the machine is idle and weight 2 where the next boundary takes no sample.
+pub struct State {
+    pub wp: u16,
+    pub pc: u16,
+    pub st: u16,
+    pub flags: u16,
+    pub psi: Psi,
+}
+
+// What an instruction was, beyond its effect on the machine.
+pub enum Deed {
+    // Nothing that is counted or noted.
+    Ordinary,
+    // An unassigned word.
+    Unassigned,
+    // A context switch by BLWP or XOP.
+    Switched,
+    // A return by RTWP.
+    Returned,
+}
+
+impl State {
+    // All fields 0.
+    pub fn blank() -> Self
+        ensures { λ r. ⌜ r ≡ Own.blank ⌝ }
+    {
+        let psi = Psi::blank();
+        Self {
+            wp: 0,
+            pc: 0,
+            st: 0,
+            flags: 0,
+            psi,
+        }
+    }
+}
+
+// The run's answer: the number of document 01's table, the state, the steps done, and how many of them met an unassigned
+// word.
+pub struct RunAnswer {
+    pub number: u16,
+    pub state: State,
+    pub steps: usize,
+    pub unassigned: usize,
+}
+
+// An answer of a number and a state.
+pub struct StateAnswer {
+    pub number: u16,
+    pub state: State,
+}
