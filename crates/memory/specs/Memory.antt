@@ -1,8 +1,10 @@
 -- The lent memory: bytes, big-endian words, and where an access begins.
-use Prim.Native.Nat.{ℕ, zero, suc, _+_, _*_, _/_, _%_, _^_}
+use Prim.Native.Nat.{ℕ, zero, suc, _+_, _*_, _/_, _%_, _<_}
 use mathlib.Core.Path.{_≡_}
+use mathlib.Core.Bool.{Bool, true, false, not, _&&_, _||_}
 use mathlib.Core.List.{List, [], _∷_}
 use lib.ListN.{length, getD, set}
+use lib.Dec.{eqb}
 use Rattle.memory.specs.declared.Width.{Width}
 use Rattle.memory.specs.declared.Width.the-variants.{Byte, Word}
 
@@ -12,6 +14,10 @@ size = 16384
 
 abbrev pub Installed : List ℕ → Type 0
 Installed m = length m ≡ size
+
+-- every element is a byte
+abbrev pub Bytes : List ℕ → Type 0
+Bytes m = (i : ℕ) → getD m i 0 < 256
 
 -- how many bytes an operand of a width has
 abbrev pub bytes : Width → ℕ
@@ -44,3 +50,22 @@ loaded w m a = number (bytes w) m (place w a)
 -- the memory after an access of a width stored v at an address
 unfoldable pub stored : Width → List ℕ → ℕ → ℕ → List ℕ
 stored w m a v = spread (bytes w) m (place w a) v
+
+-- the k places from p on
+unfoldable pub places : ℕ → ℕ → List ℕ
+places zero p = []
+places (suc k) p = p ∷ places k (suc p)
+
+-- the places of the bytes that an access of a width at an address reads or stores
+unfoldable pub touched : Width → ℕ → List ℕ
+touched w a = places (bytes w) (place w a)
+
+-- whether a place is one of these
+unfoldable pub covers : ℕ → List ℕ → Bool
+covers i [] = false
+covers i (p ∷ ps) = eqb i p || covers i ps
+
+-- whether two lists have no place in common
+unfoldable pub disjoint : List ℕ → List ℕ → Bool
+disjoint [] qs = true
+disjoint (p ∷ ps) qs = not (covers p qs) && disjoint ps qs

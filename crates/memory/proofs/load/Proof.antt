@@ -4,10 +4,6 @@ use native.Mathlib.Nat.{zero-add, add-zero, div-one, mul-one}
 use Rattle.memory.specs.Memory.{loaded, number, place}
 use Rattle.memory.proofs.load.Statement.{statement}
 use Rattle.memory.proofs.load.Tie as tie
-use Rattle.memory.proofs.load.Reads as reads
-use Rattle.memory.proofs.load.Lts as lts
-use Rattle.memory.proofs.wide.Reads as wide-reads
-use Rattle.memory.proofs.word.Reads as word-reads
 
 enum-told : tie.Need-enum-told
 enum-told c = search needs

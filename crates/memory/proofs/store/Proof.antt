@@ -7,8 +7,6 @@ use lib.ListN.{length-set}
 use Rattle.memory.specs.Memory.{stored, spread, place}
 use Rattle.memory.proofs.store.Statement.{statement}
 use Rattle.memory.proofs.store.Tie as tie
-use Rattle.memory.proofs.store.Reads as reads
-use Rattle.memory.proofs.store.Lts as lts
 
 enum-told : tie.Need-enum-told
 enum-told c = search needs
