@@ -15,6 +15,9 @@ pub record Performed (A : Type 0) : Type 0 where
   pub value : A
   pub machine : Machine
 
+abbrev pub performed : {A : Type 0} → A → Machine → Performed A
+performed a m = record { value = a; machine = m }
+
 -- WP and PC are 16 bits and always even: loading them drops the lowest bit.
 abbrev pub even : ℕ → ℕ
 even x = x / 2 * 2 % 65536

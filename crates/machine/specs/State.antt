@@ -41,6 +41,9 @@ pub record Machine : Type 0 where
   pub state : State
   pub memory : List ℕ
 
+abbrev pub at : State → List ℕ → Machine
+at s m = record { state = s; memory = m }
+
 abbrev pub with-wp : ℕ → State → State
 with-wp x s = record { wp = x; pc = s .pc; st = s .st; flags = s .flags; psi = s .psi }
 

@@ -3,6 +3,8 @@ ghost use mathlib.Core.Path.{_≡_};
 ghost use Rattle.machine.specs.State as Own;
 use psi::Psi;
 
+pub mod bus;
+
 // WP, PC and ST; `flags` has weight 1 where the machine is idle and weight 2 where the next boundary takes no sample.
 pub struct State {
     pub wp: u16,

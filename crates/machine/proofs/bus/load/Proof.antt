@@ -1,0 +1,15 @@
+-- One access of a microprogram: the state stays, and the value is what memory gives.
+use Rattle.machine.specs.Perform.{perform}
+use borrow.Author.Needs.{needs}
+use Rattle.machine.proofs.bus.load.Statement.{statement}
+use Rattle.machine.proofs.bus.load.Tie as tie
+
+load-requires : tie.Need-load-requires
+load-requires c κs = search needs
+
+returns : tie.Need-returns
+unfolding perform
+returns c v = rw (c .load .ensures)
+
+pub load-spec : {M : Type 1} → statement M
+load-spec = tie.close (tie.spec load-requires returns)

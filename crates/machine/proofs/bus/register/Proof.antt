@@ -1,0 +1,19 @@
+-- One access of a microprogram: the load at the register's address.
+use Rattle.machine.specs.Perform.{perform}
+use Rattle.machine.specs.Operands.{register}
+use borrow.Author.Needs.{needs}
+use Rattle.machine.proofs.bus.register.Statement.{statement}
+use Rattle.machine.proofs.bus.register.Tie as tie
+
+register-at-requires : tie.Need-register-at-requires
+register-at-requires c κs = search needs
+
+load-requires : tie.Need-load-requires
+load-requires c κs = search needs
+
+returns : tie.Need-returns
+unfolding perform register
+returns c v = rw (← c .before .register-at .ensures) (c .load .ensures v)
+
+pub register-spec : {M : Type 1} → statement M
+register-spec = tie.close (tie.spec register-at-requires load-requires returns)

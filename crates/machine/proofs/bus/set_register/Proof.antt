@@ -1,0 +1,22 @@
+-- One access of a microprogram: the store at the register's address.
+use Rattle.machine.specs.Perform.{perform}
+use Rattle.machine.specs.Operands.{set-register}
+use borrow.Author.Needs.{needs}
+use Rattle.machine.proofs.bus.set_register.Statement.{statement}
+use Rattle.machine.proofs.bus.set_register.Tie as tie
+
+register-at-requires : tie.Need-register-at-requires
+register-at-requires c κs = search needs
+
+store-requires : tie.Need-store-requires
+store-requires c κs = search needs
+
+same-length : tie.Need-same-length
+same-length c = search needs
+
+returns : tie.Need-returns
+unfolding perform set-register
+returns c v = rw (← c .before .before .before .register-at .ensures) (c .before .before .store .ensures v)
+
+pub set-register-spec : {M : Type 1} → statement M
+set-register-spec = tie.close (tie.spec register-at-requires store-requires same-length returns)

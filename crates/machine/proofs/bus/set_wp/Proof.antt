@@ -1,0 +1,18 @@
+-- One access of a microprogram: an even number of 16 bits is left as it is.
+use Prim.Native.Nat.{_<_, _*_, _/_}
+use native.Mathlib.Omega.{arith}
+use native.Mathlib.Nat.{mod-eq-of-lt}
+use Rattle.machine.specs.Perform.{perform}
+use borrow.Author.Needs.{needs}
+use Rattle.machine.proofs.bus.set_wp.Statement.{statement}
+use Rattle.machine.proofs.bus.set_wp.Tie as tie
+
+mul-s : tie.Need-mul-s
+mul-s c = search needs
+
+returns : tie.Need-returns
+unfolding perform
+returns c v m = rw (mod-eq-of-lt (let h : c .args .value / 2 * 2 < 65536 = omega arith in h))
+
+pub set-wp-spec : {M : Type 1} → statement M
+set-wp-spec = tie.close (tie.spec mul-s returns)

@@ -1,0 +1,112 @@
+// Accesses to the lent memory. Each takes the state and hands it back, and is one access of a microprogram.
+ghost use mathlib.Core.Path.{_≡_};
+ghost use Prim.Native.Nat.{ℕ};
+ghost use mathlib.Core.List.{List};
+ghost use Rattle.machine.specs.Operands as Operands;
+ghost use Rattle.memory.specs.Memory.{Installed};
+ghost use Rattle.machine.specs.State.{at};
+ghost use Rattle.machine.specs.Micro as Micro;
+ghost use Rattle.machine.specs.Micro.{to-wp, to-pc, to-st, to-flags};
+ghost use Rattle.machine.specs.Perform.{perform, performed};
+use memory::Width;
+use super::State;
+
+// A value that was read, and the state after the access.
+pub struct Loaded {
+    pub value: u16,
+    pub state: State,
+}
+
+// What an access of this width at this address reads.
+pub fn load(bytes: &[u8], state: State, width: Width, address: u16) -> Loaded
+    requires { ⌜ Installed (now bytes) ⌝ }
+    ensures { λ r. ⌜ ((v : ℕ) → perform v (Micro.load width address) (at state (now (bytes .entry))) ≡ performed (r .value) (at (r .state) (now (bytes .entry)))) ⌝ }
+{
+    Loaded {
+        value: memory::load(bytes, width, address),
+        state,
+    }
+}
+
+// Stores a byte or a word at this address.
+pub fn store(bytes: &mut [u8], state: State, width: Width, address: u16, value: u16) -> State
+    requires { ⌜ Installed (now bytes) ⌝ }
+    ensures { λ r. ⌜ ((v : ℕ) → perform v (Micro.store width address value) (at state (now (bytes .entry))) ≡ performed tt (at r (now (bytes .exit)))) ⌝ }
+{
+    memory::store(bytes, width, address, value);
+    state
+}
+
+// The word at PC, which rises by 2.
+pub fn fetch(bytes: &[u8], state: State) -> Loaded
+    requires { ⌜ Installed (now bytes) ⌝ }
+    ensures { λ r. ⌜ ((v : ℕ) → perform v Micro.fetched (at state (now (bytes .entry))) ≡ performed (r .value) (at (r .state) (now (bytes .entry)))) ⌝ }
+{
+    let mut s = state;
+    let pc = s.pc;
+    let value = memory::load(bytes, Width::Word, pc);
+    s.pc = std::num::wrapping_add_u16(pc, 2);
+    Loaded { value, state: s }
+}
+
+// Where register `n` is.
+pub fn register_at(wp: u16, n: u16) -> u16
+    ensures { λ r. ⌜ r ≡ Operands.register-at wp n ⌝ }
+{
+    let twice = std::num::wrapping_add_u16(n, n);
+    std::num::wrapping_add_u16(wp, twice)
+}
+
+// Register `n`.
+pub fn register(bytes: &[u8], state: State, n: u16) -> Loaded
+    requires { ⌜ Installed (now bytes) ⌝ }
+    ensures { λ r. ⌜ ((v : ℕ) → perform v (Operands.register n) (at state (now (bytes .entry))) ≡ performed (r .value) (at (r .state) (now (bytes .entry)))) ⌝ }
+{
+    let wp = state.wp;
+    load(bytes, state, Width::Word, register_at(wp, n))
+}
+
+// Stores into register `n`.
+pub fn set_register(bytes: &mut [u8], state: State, n: u16, value: u16) -> State
+    requires { ⌜ Installed (now bytes) ⌝ }
+    ensures { λ r. ⌜ ((v : ℕ) → perform v (Operands.set-register n value) (at state (now (bytes .entry))) ≡ performed tt (at r (now (bytes .exit)))) ⌝ }
+{
+    let wp = state.wp;
+    store(bytes, state, Width::Word, register_at(wp, n), value)
+}
+
+// WP takes a value, less its lowest bit.
+pub fn set_wp(state: State, value: u16) -> State
+    ensures { λ r. ⌜ ((v : ℕ) (m : List ℕ) → perform v (Micro.set to-wp value) (at state m) ≡ performed tt (at r m)) ⌝ }
+{
+    let mut s = state;
+    s.wp = value / 2 * 2;
+    s
+}
+
+// PC takes a value, less its lowest bit.
+pub fn set_pc(state: State, value: u16) -> State
+    ensures { λ r. ⌜ ((v : ℕ) (m : List ℕ) → perform v (Micro.set to-pc value) (at state m) ≡ performed tt (at r m)) ⌝ }
+{
+    let mut s = state;
+    s.pc = value / 2 * 2;
+    s
+}
+
+// ST takes a value.
+pub fn set_st(state: State, value: u16) -> State
+    ensures { λ r. ⌜ ((v : ℕ) (m : List ℕ) → perform v (Micro.set to-st value) (at state m) ≡ performed tt (at r m)) ⌝ }
+{
+    let mut s = state;
+    s.st = value;
+    s
+}
+
+// The flags take a value of two bits.
+pub fn set_flags(state: State, value: u16) -> State
+    ensures { λ r. ⌜ ((v : ℕ) (m : List ℕ) → perform v (Micro.set to-flags value) (at state m) ≡ performed tt (at r m)) ⌝ }
+{
+    let mut s = state;
+    s.flags = value % 4;
+    s
+}
