@@ -6,9 +6,10 @@ use mathlib.Core.List.{List, [], _∷_, _++_}
 use Rattle.memory.specs.declared.Width.the-variants.{Word}
 use Rattle.memory.specs.Memory.{loaded}
 use Rattle.psi.specs.Cru as Cru
+use Rattle.machine.specs.State as State
 use Rattle.machine.specs.State.{Machine}
-use Rattle.machine.specs.Micro.{Micro, done, look, assign, fetch, read, write, sense, drive, _>>=_}
-use Rattle.machine.specs.Perform.{Performed, perform, accesses, Access, was-fetched, was-read, was-written, was-sensed, was-driven, after-assign, after-fetch, after-write, after-sense, after-drive}
+use Rattle.machine.specs.Micro.{Micro, done, look, assign, fetch, read, write, sense, drive, _>>=_, registers}
+use Rattle.machine.specs.Perform.{Performed, perform, performed, accesses, Access, was-fetched, was-read, was-written, was-sensed, was-driven, after-assign, after-fetch, after-write, after-sense, after-drive}
 
 module _ {A B : Type 0} (v : ℕ) where
   pub perform-bind : (p : Micro A) (f : A → Micro B) (m : Machine)
@@ -34,3 +35,13 @@ module _ {A B : Type 0} (v : ℕ) where
   accesses-bind (write w a x k) f m = ap (was-written w a x ∷_) (accesses-bind k f (after-write w a x m))
   accesses-bind (sense b k) f m = ap (was-sensed b ∷_) (accesses-bind (k (Cru.sensed (m .state .psi) v b .value)) f (after-sense v b m))
   accesses-bind (drive b x k) f m = ap (was-driven b x ∷_) (accesses-bind k f (after-drive b x m))
+
+-- nothing more, and looking at the registers
+module _ (v : ℕ) where
+  pub perform-done : {A : Type 0} (a : A) (m : Machine) → perform v (done a) m ≡ performed a m
+  unfolding perform
+  perform-done a m = refl
+
+  pub perform-registers : (m : Machine) → perform v registers m ≡ performed (State.registers (m .state)) m
+  unfolding perform registers
+  perform-registers m = refl

@@ -41,23 +41,23 @@ abbrev pub _>>_ : {A B : Type 0} → Micro A → Micro B → Micro B
 _>>_ m n = m >>= λ _. n
 
 -- each access by itself
-abbrev pub registers : Micro Registers
+unfoldable pub registers : Micro Registers
 registers = look done
 
-abbrev pub set : Target → ℕ → Micro (Unit {0})
+unfoldable pub set : Target → ℕ → Micro (Unit {0})
 set t x = assign t x (done tt)
 
-abbrev pub fetched : Micro ℕ
+unfoldable pub fetched : Micro ℕ
 fetched = fetch done
 
-abbrev pub load : Width → ℕ → Micro ℕ
+unfoldable pub load : Width → ℕ → Micro ℕ
 load w a = read w a done
 
-abbrev pub store : Width → ℕ → ℕ → Micro (Unit {0})
+unfoldable pub store : Width → ℕ → ℕ → Micro (Unit {0})
 store w a x = write w a x (done tt)
 
-abbrev pub sensed : CruBit → Micro Bool
+unfoldable pub sensed : CruBit → Micro Bool
 sensed b = sense b done
 
-abbrev pub driven : CruBit → Bool → Micro (Unit {0})
+unfoldable pub driven : CruBit → Bool → Micro (Unit {0})
 driven b x = drive b x (done tt)

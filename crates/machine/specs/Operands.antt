@@ -20,24 +20,24 @@ register n = registers >>= λ r. load Word (register-at (r .wp) n)
 unfoldable pub set-register : ℕ → ℕ → Micro (Unit {0})
 set-register n x = registers >>= λ r. store Word (register-at (r .wp) n) x
 
--- The address of a general operand: the register itself, the address in it, a further word with or without an index, or
--- the address in the register, which then rises by the operand's bytes.
+-- a further word, plus a register where that is not R0
+unfoldable pub indexed : ℕ → Micro ℕ
+indexed n = do
+  base ← fetched
+  index ← (if eqb n 0 then done 0 else register n)
+  done ((base + index) % 65536)
+
+-- the address in a register, which rises by the operand's bytes
+unfoldable pub stepped : Width → ℕ → Micro ℕ
+stepped w n = do
+  a ← register n
+  set-register n ((a + bytes w) % 65536)
+  done a
+
+-- The address of a general operand: the register itself, the address in it, an indexed one, or one that steps.
 unfoldable pub operand : Width → Operand → Micro ℕ
 operand w o =
-    registers >>= λ r.
-    if eqb (o .mode) 0 then done (register-at (r .wp) (o .register))
+    if eqb (o .mode) 0 then (registers >>= λ r. done (register-at (r .wp) (o .register)))
     else if eqb (o .mode) 1 then register (o .register)
-    else if eqb (o .mode) 2 then indexed
-    else stepped
-  where
-    indexed : Micro ℕ
-    indexed = do
-      base ← fetched
-      index ← (if eqb (o .register) 0 then done 0 else register (o .register))
-      done ((base + index) % 65536)
-
-    stepped : Micro ℕ
-    stepped = do
-      a ← register (o .register)
-      set-register (o .register) ((a + bytes w) % 65536)
-      done a
+    else if eqb (o .mode) 2 then indexed (o .register)
+    else stepped w (o .register)

@@ -8,8 +8,8 @@ ghost use Rattle.machine.specs.State.{at};
 ghost use Rattle.machine.specs.Micro as Micro;
 ghost use Rattle.machine.specs.Micro.{to-wp, to-pc, to-st, to-flags};
 ghost use Rattle.machine.specs.Perform.{perform, performed};
-use memory::Width;
 use super::State;
+use memory::Width;
 
 // A value that was read, and the state after the access.
 pub struct Loaded {

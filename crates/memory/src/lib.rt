@@ -9,6 +9,16 @@ pub enum Width {
     Word,
 }
 
+// How many bytes an operand of this width has.
+pub fn bytes(width: Width) -> u16
+    ensures { λ r. ⌜ r ≡ Memory.bytes width ⌝ }
+{
+    match width {
+        Width::Byte => 1,
+        Width::Word => 2,
+    }
+}
+
 // A byte as a number of 16 bits.
 fn wide(byte: u8) -> u16
     ensures { λ r. ⌜ r ≡ byte ⌝ }

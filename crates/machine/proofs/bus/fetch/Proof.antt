@@ -1,4 +1,5 @@
 -- One access of a microprogram: the word at PC, and PC higher by 2.
+use Rattle.machine.specs.Micro as Micro
 use Rattle.machine.specs.Perform.{perform}
 use borrow.Author.Needs.{needs}
 use Rattle.machine.proofs.bus.fetch.Statement.{statement}
@@ -11,7 +12,7 @@ wrapping-add-u16-requires : tie.Need-wrapping-add-u16-requires
 wrapping-add-u16-requires c κs = search needs
 
 returns : tie.Need-returns
-unfolding perform
+unfolding perform Micro.fetched
 returns c v = rw (c .before .load .ensures, c .wrapping-add-u16 .ensures)
 
 pub fetch-spec : {M : Type 1} → statement M

@@ -1,4 +1,5 @@
 -- One access of a microprogram: the state stays, and the value is what memory gives.
+use Rattle.machine.specs.Micro as Micro
 use Rattle.machine.specs.Perform.{perform}
 use borrow.Author.Needs.{needs}
 use Rattle.machine.proofs.bus.load.Statement.{statement}
@@ -8,7 +9,7 @@ load-requires : tie.Need-load-requires
 load-requires c κs = search needs
 
 returns : tie.Need-returns
-unfolding perform
+unfolding perform Micro.load
 returns c v = rw (c .load .ensures)
 
 pub load-spec : {M : Type 1} → statement M

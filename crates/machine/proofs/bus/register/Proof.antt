@@ -1,4 +1,5 @@
 -- One access of a microprogram: the load at the register's address.
+use Rattle.machine.specs.Micro as Micro
 use Rattle.machine.specs.Perform.{perform}
 use Rattle.machine.specs.Operands.{register}
 use borrow.Author.Needs.{needs}
@@ -12,7 +13,7 @@ load-requires : tie.Need-load-requires
 load-requires c κs = search needs
 
 returns : tie.Need-returns
-unfolding perform register
+unfolding perform Micro.registers Micro.load register
 returns c v = rw (← c .before .register-at .ensures) (c .load .ensures v)
 
 pub register-spec : {M : Type 1} → statement M

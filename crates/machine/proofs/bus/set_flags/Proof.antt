@@ -1,11 +1,12 @@
 -- One access of a microprogram: the code is the definition.
 use mathlib.Core.Path.{refl}
+use Rattle.machine.specs.Micro as Micro
 use Rattle.machine.specs.Perform.{perform}
 use Rattle.machine.proofs.bus.set_flags.Statement.{statement}
 use Rattle.machine.proofs.bus.set_flags.Tie as tie
 
 returns : tie.Need-returns
-unfolding perform
+unfolding perform Micro.set
 returns c v m = refl
 
 pub set-flags-spec : {M : Type 1} → statement M

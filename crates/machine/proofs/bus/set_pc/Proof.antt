@@ -2,6 +2,7 @@
 use Prim.Native.Nat.{_<_, _*_, _/_}
 use native.Mathlib.Omega.{arith}
 use native.Mathlib.Nat.{mod-eq-of-lt}
+use Rattle.machine.specs.Micro as Micro
 use Rattle.machine.specs.Perform.{perform}
 use borrow.Author.Needs.{needs}
 use Rattle.machine.proofs.bus.set_pc.Statement.{statement}
@@ -11,7 +12,7 @@ mul-s : tie.Need-mul-s
 mul-s c = search needs
 
 returns : tie.Need-returns
-unfolding perform
+unfolding perform Micro.set
 returns c v m = rw (mod-eq-of-lt (let h : c .args .value / 2 * 2 < 65536 = omega arith in h))
 
 pub set-pc-spec : {M : Type 1} → statement M

@@ -1,4 +1,5 @@
 -- One access of a microprogram: the store at the register's address.
+use Rattle.machine.specs.Micro as Micro
 use Rattle.machine.specs.Perform.{perform}
 use Rattle.machine.specs.Operands.{set-register}
 use borrow.Author.Needs.{needs}
@@ -15,7 +16,7 @@ same-length : tie.Need-same-length
 same-length c = search needs
 
 returns : tie.Need-returns
-unfolding perform set-register
+unfolding perform Micro.registers Micro.store set-register
 returns c v = rw (← c .before .before .before .register-at .ensures) (c .before .before .store .ensures v)
 
 pub set-register-spec : {M : Type 1} → statement M

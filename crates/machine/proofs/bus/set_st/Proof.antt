@@ -1,11 +1,12 @@
 -- One access of a microprogram: a number of 16 bits is left as it is.
 use native.Mathlib.Nat.{mod-eq-of-lt}
+use Rattle.machine.specs.Micro as Micro
 use Rattle.machine.specs.Perform.{perform}
 use Rattle.machine.proofs.bus.set_st.Statement.{statement}
 use Rattle.machine.proofs.bus.set_st.Tie as tie
 
 returns : tie.Need-returns
-unfolding perform
+unfolding perform Micro.set
 returns c v m = rw (mod-eq-of-lt (c .fits .value .fits))
 
 pub set-st-spec : {M : Type 1} → statement M

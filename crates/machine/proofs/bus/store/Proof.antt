@@ -1,4 +1,5 @@
 -- One access of a microprogram: the state stays, and memory is what the store leaves.
+use Rattle.machine.specs.Micro as Micro
 use Rattle.machine.specs.Perform.{perform}
 use borrow.Author.Needs.{needs}
 use Rattle.machine.proofs.bus.store.Statement.{statement}
@@ -11,7 +12,7 @@ same-length : tie.Need-same-length
 same-length c = search needs
 
 returns : tie.Need-returns
-unfolding perform
+unfolding perform Micro.store
 returns c v = rw (c .before .before .store .ensures)
 
 pub store-spec : {M : Type 1} → statement M

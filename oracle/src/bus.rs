@@ -1,0 +1,99 @@
+//! The processor's bus: the lent memory and the PSI. Every access of the
+//! processor to memory or CRU is one call of a function here.
+
+use crate::psi::{CruBit, Pins, Psi};
+
+/// Bytes of memory.
+pub const MEMORY_SIZE: usize = 16384;
+
+pub type Memory = [u8; MEMORY_SIZE];
+
+/// How the processor touches a memory address.
+#[derive(Clone, Copy, Debug, PartialEq, Eq)]
+pub enum Access {
+    /// An instruction word or a further word of it, at the PC.
+    Fetch,
+    /// A register, an operand or a vector word.
+    ReadWord,
+    ReadByte,
+    WriteWord,
+    WriteByte,
+}
+
+pub struct Bus<'m> {
+    memory: &'m mut Memory,
+    pub psi: Psi,
+    /// The current step's pin record.
+    pub pins: Pins,
+    /// What was touched, in order.
+    #[cfg(test)]
+    pub touched: Vec<(Access, u16)>,
+}
+
+impl<'m> Bus<'m> {
+    pub fn new(memory: &'m mut Memory, psi: Psi) -> Bus<'m> {
+        Bus {
+            memory,
+            psi,
+            pins: Pins::default(),
+            #[cfg(test)]
+            touched: Vec::new(),
+        }
+    }
+
+    /// Every memory access comes here first, with its full 16-bit address.
+    /// Memory addresses do not affect the PSI, so there is nothing to do.
+    #[inline(always)]
+    fn touch(&mut self, _access: Access, _address: u16) {
+        #[cfg(test)]
+        self.touched.push((_access, _address));
+    }
+
+    /// Reads an instruction word, or a further word of it, at the PC.
+    pub fn fetch(&mut self, pc: u16) -> u16 {
+        self.touch(Access::Fetch, pc);
+        self.word(pc)
+    }
+
+    /// Reads a register, an operand or a vector word.
+    pub fn read_word(&mut self, address: u16) -> u16 {
+        self.touch(Access::ReadWord, address);
+        self.word(address)
+    }
+
+    pub fn read_byte(&mut self, address: u16) -> u8 {
+        self.touch(Access::ReadByte, address);
+        self.memory[place(address)]
+    }
+
+    pub fn write_word(&mut self, address: u16, value: u16) {
+        self.touch(Access::WriteWord, address);
+        let high = place(address & !1);
+        let [high_byte, low_byte] = value.to_be_bytes();
+        self.memory[high] = high_byte;
+        self.memory[high | 1] = low_byte;
+    }
+
+    pub fn write_byte(&mut self, address: u16, value: u8) {
+        self.touch(Access::WriteByte, address);
+        self.memory[place(address)] = value;
+    }
+
+    fn word(&self, address: u16) -> u16 {
+        let high = place(address & !1);
+        u16::from_be_bytes([self.memory[high], self.memory[high | 1]])
+    }
+
+    pub fn read_cru(&mut self, bit: CruBit) -> bool {
+        self.psi.read_bit(bit, self.pins)
+    }
+
+    pub fn write_cru(&mut self, bit: CruBit, value: bool) {
+        self.psi.write_bit(bit, value);
+    }
+}
+
+/// Where an address lies in the memory.
+fn place(address: u16) -> usize {
+    usize::from(address) % MEMORY_SIZE
+}

@@ -1,0 +1,19 @@
+//! An ordinary emulator of a TMS 9980A with one TMS 9901, written from the
+//! papers alone, so that another implementation can be compared with it.
+//!
+//! * [`power_up`], [`run`], [`read_image`], [`write_image`] are the four calls.
+//! * [`cpu::Machine`] does single steps and tells what each of them was.
+
+pub mod bus;
+pub mod cpu;
+pub mod image;
+pub mod psi;
+pub mod run;
+pub mod state;
+
+pub use bus::{Access, Bus, Memory, MEMORY_SIZE};
+pub use cpu::{Machine, Step};
+pub use image::{read_image, write_image, BLOCKS, BLOCK_SIZE, IMAGE_SIZE};
+pub use psi::{CruBit, Pins, Psi};
+pub use run::{power_up, run};
+pub use state::{Answer, State};

@@ -1,0 +1,78 @@
+//! The state outside the memory, and the answer of a call.
+
+use crate::psi::Psi;
+
+/// Flag weights of [`State::flags`].
+pub const FLAG_IDLE: u16 = 1;
+pub const FLAG_NO_SAMPLE: u16 = 2;
+
+/// The machine's state. Every field is the 16-bit word that the image has for
+/// it, so a state can hold any words, well formed or not.
+#[derive(Clone, Copy, Debug, Default, PartialEq, Eq)]
+pub struct State {
+    pub wp: u16,
+    pub pc: u16,
+    pub st: u16,
+    /// Weight 1: idle; weight 2: no-sample.
+    pub flags: u16,
+    pub psi: Psi,
+}
+
+impl State {
+    /// All 0.
+    pub const BLANK: State = State {
+        wp: 0,
+        pc: 0,
+        st: 0,
+        flags: 0,
+        psi: Psi::BLANK,
+    };
+
+    pub fn is_well_formed(&self) -> bool {
+        self.wp % 2 == 0 && self.pc % 2 == 0 && self.flags <= 3 && self.psi.is_well_formed()
+    }
+}
+
+/// What a call answers. Counts and numbers that do not apply are 0.
+#[derive(Clone, Copy, Debug, PartialEq, Eq)]
+pub struct Answer {
+    /// 0 if accepted, else the refusal's number.
+    pub number: u16,
+    /// The bad block of refusals 6 and 7.
+    pub block: u16,
+    /// The steps done.
+    pub steps: usize,
+    /// How many of them met an unassigned word.
+    pub unassigned: usize,
+    pub state: State,
+}
+
+impl Answer {
+    pub const ACCEPTED: u16 = 0;
+    pub const MEMORY_SIZE_WRONG: u16 = 1;
+    pub const STATE_NOT_WELL_FORMED: u16 = 2;
+    pub const TOO_FEW_RECORDS: u16 = 3;
+    pub const IMAGE_SIZE_WRONG: u16 = 5;
+    pub const BLOCK_CHECK_WRONG: u16 = 6;
+    pub const BLOCK_NUMBER_WRONG: u16 = 7;
+    pub const FORMAT_WRONG: u16 = 8;
+    pub const FIELDS_NOT_WELL_FORMED: u16 = 9;
+
+    pub fn accepted(state: State) -> Answer {
+        Answer::numbered(Answer::ACCEPTED, state)
+    }
+
+    pub fn refused(number: u16, state: State) -> Answer {
+        Answer::numbered(number, state)
+    }
+
+    fn numbered(number: u16, state: State) -> Answer {
+        Answer {
+            number,
+            block: 0,
+            steps: 0,
+            unassigned: 0,
+            state,
+        }
+    }
+}

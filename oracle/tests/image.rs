@@ -1,0 +1,258 @@
+//! Images: layout, round trips, refusals in order.
+mod common;
+use common::*;
+use oracle::{read_image, write_image, Answer, Psi, State, IMAGE_SIZE, MEMORY_SIZE};
+
+fn refused(number: u16, block: u16, state: State) -> Answer {
+    Answer {
+        number,
+        block,
+        steps: 0,
+        unassigned: 0,
+        state,
+    }
+}
+
+fn sample() -> (State, Vec<u8>) {
+    let state = State {
+        wp: 0x8302,
+        pc: 0xFFFE,
+        st: 0xA5C3,
+        flags: 3,
+        psi: Psi {
+            control_and_masks: 0x1235,
+            directions: 0xF00F,
+            latches: 0x8001,
+            load: 16383,
+            decrementer: 300,
+            read_register: 301,
+            phase: 63,
+            pending: 1,
+        },
+    };
+    let mut random = Random(11);
+    (state, (0..MEMORY_SIZE).map(|_| random.word() as u8).collect())
+}
+
+fn sample_image() -> Vec<u8> {
+    let (state, memory) = sample();
+    let mut image = vec![0xEE; IMAGE_SIZE];
+    assert_eq!(write_image(state, &memory, &mut image), refused(0, 0, state));
+    image
+}
+
+fn word(image: &[u8], at: usize) -> u16 {
+    u16::from(image[at]) * 256 + u16::from(image[at + 1])
+}
+
+fn put(image: &mut [u8], at: usize, value: u16) {
+    image[at] = (value >> 8) as u8;
+    image[at + 1] = value as u8;
+}
+
+/// Makes a block's check word right again.
+fn mend(image: &mut [u8], block: usize) {
+    let sum: u32 = (0..255)
+        .map(|i| u32::from(word(image, 512 * block + 2 * i)))
+        .sum();
+    put(image, 512 * block + 510, 65535 - (sum % 65536) as u16);
+}
+
+/// Reading it must be refused so, and store nothing.
+fn expect(image: &[u8], number: u16, block: u16) {
+    let mut memory = vec![0x77; MEMORY_SIZE];
+    assert_eq!(
+        read_image(image, &mut memory),
+        refused(number, block, State::BLANK)
+    );
+    assert!(memory.iter().all(|&byte| byte == 0x77));
+}
+
+#[test]
+fn layout() {
+    let (_, memory) = sample();
+    let image = sample_image();
+    assert_eq!(image.len(), 17408);
+    for block in 0..34 {
+        assert_eq!(usize::from(word(&image, 512 * block)), block);
+        let sum: u32 = (0..256)
+            .map(|i| u32::from(word(&image, 512 * block + 2 * i)))
+            .sum();
+        assert_eq!(sum % 65536, 65535);
+    }
+    let fields = [
+        0x9901, 1, 0x8302, 0xFFFE, 0xA5C3, 3, 0x1235, 0xF00F, 0x8001, 16383, 300, 301, 63, 1,
+    ];
+    for (i, field) in fields.iter().enumerate() {
+        assert_eq!(word(&image, 2 + 2 * i), *field);
+    }
+    assert!(image[2 + 28..510].iter().all(|&byte| byte == 0));
+    for (address, &byte) in memory.iter().enumerate() {
+        assert_eq!(image[512 * (1 + address / 508) + 2 + address % 508], byte);
+    }
+    assert!(image[33 * 512 + 2 + 128..33 * 512 + 510]
+        .iter()
+        .all(|&byte| byte == 0));
+}
+
+#[test]
+fn round_trips() {
+    let (state, memory) = sample();
+    let image = sample_image();
+    let mut read = vec![0; MEMORY_SIZE];
+    assert_eq!(read_image(&image, &mut read), refused(0, 0, state));
+    assert_eq!(read, memory);
+    let mut again = vec![0; IMAGE_SIZE];
+    write_image(state, &read, &mut again);
+    assert_eq!(again, image);
+    // The blank state and a blank memory.
+    let mut image = vec![0xEE; IMAGE_SIZE];
+    write_image(State::BLANK, &vec![0; MEMORY_SIZE], &mut image);
+    let mut read = vec![1; MEMORY_SIZE];
+    assert_eq!(read_image(&image, &mut read), refused(0, 0, State::BLANK));
+    assert_eq!(read, vec![0; MEMORY_SIZE]);
+}
+
+#[test]
+fn refusals_of_writing_in_order() {
+    let (good, memory) = sample();
+    let bad = State {
+        flags: 7,
+        psi: Psi {
+            load: 20000,
+            ..good.psi
+        },
+        ..good
+    };
+    let mut image = vec![0xEE; IMAGE_SIZE];
+    let mut short = vec![0xEE; IMAGE_SIZE - 1];
+    let mut long = vec![0xEE; IMAGE_SIZE + 1];
+    assert_eq!(write_image(bad, &memory[1..], &mut short), refused(1, 0, bad));
+    assert_eq!(write_image(good, &[], &mut image), refused(1, 0, good));
+    assert_eq!(write_image(bad, &memory, &mut short), refused(5, 0, bad));
+    assert_eq!(write_image(good, &memory, &mut long), refused(5, 0, good));
+    assert_eq!(write_image(good, &memory, &mut []), refused(5, 0, good));
+    assert_eq!(write_image(bad, &memory, &mut image), refused(2, 0, bad));
+    for untouched in [&image, &short, &long] {
+        assert!(untouched.iter().all(|&byte| byte == 0xEE));
+    }
+}
+
+#[test]
+fn refusals_of_reading_sizes() {
+    let image = sample_image();
+    for size in [0, MEMORY_SIZE - 1, MEMORY_SIZE + 1] {
+        let mut memory = vec![0x77; size];
+        assert_eq!(read_image(&[], &mut memory), refused(1, 0, State::BLANK));
+        assert_eq!(read_image(&image, &mut memory), refused(1, 0, State::BLANK));
+        assert!(memory.iter().all(|&byte| byte == 0x77));
+    }
+    expect(&[], 5, 0);
+    expect(&image[1..], 5, 0);
+    let mut long = image;
+    long.push(0);
+    expect(&long, 5, 0);
+}
+
+#[test]
+fn refusals_of_blocks() {
+    for block in 0..34usize {
+        // 6: any byte changed
+        for at in [0, 1, 2, 300, 509, 510, 511] {
+            let mut image = sample_image();
+            image[512 * block + at] ^= 0x10;
+            expect(&image, 6, block as u16);
+        }
+        // 7: number wrong, check right
+        for number in [block as u16 + 1, block as u16 ^ 0x8000, 0xFFFF] {
+            let mut image = sample_image();
+            put(&mut image, 512 * block, number);
+            mend(&mut image, block);
+            expect(&image, 7, block as u16);
+            // Both wrong in one block: 6 first
+            image[512 * block + 511] ^= 1;
+            expect(&image, 6, block as u16);
+        }
+    }
+    // Block by block: a wrong number in 3 comes before a wrong check in 5.
+    let mut image = sample_image();
+    put(&mut image, 512 * 3, 99);
+    mend(&mut image, 3);
+    image[512 * 5 + 100] ^= 1;
+    expect(&image, 7, 3);
+    // And the other way round.
+    let mut image = sample_image();
+    put(&mut image, 512 * 5, 99);
+    mend(&mut image, 5);
+    image[512 * 3 + 100] ^= 1;
+    expect(&image, 6, 3);
+    // Two blocks that changed places: the lower place is named.
+    let mut image = sample_image();
+    let block: Vec<u8> = image[512 * 7..512 * 8].to_vec();
+    image.copy_within(512 * 9..512 * 10, 512 * 7);
+    image[512 * 9..512 * 10].copy_from_slice(&block);
+    expect(&image, 7, 7);
+    // A sum that is right only modulo 65535 is wrong: all-zero block 0.
+    let mut image = sample_image();
+    image[..512].fill(0);
+    expect(&image, 6, 0);
+}
+
+#[test]
+fn refusals_of_format_and_fields() {
+    // 8 before 9, and after 6 and 7 of any block
+    for (field, value) in [(0, 0x9902), (0, 0), (1, 0), (1, 2), (1, 0x0101)] {
+        let mut image = sample_image();
+        put(&mut image, 2 + 2 * field, value);
+        mend(&mut image, 0);
+        expect(&image, 8, 0);
+        put(&mut image, 2 + 2 * 5, 4); // flags
+        mend(&mut image, 0);
+        expect(&image, 8, 0);
+        image[33 * 512 + 200] = 1; // filler with a wrong check
+        expect(&image, 6, 33);
+        mend(&mut image, 33);
+        expect(&image, 8, 0);
+    }
+    // 9: fields
+    for (field, value) in [
+        (2, 0x8303),
+        (3, 0xFFFF),
+        (5, 4),
+        (6, 0x1234), // control 0, but the read register is not the decrementer
+        (7, 0x700F), // latch 15 on an input
+        (8, 0x8011),
+        (9, 16384),
+        (10, 16384),
+        (11, 16384),
+        (12, 64),
+        (13, 2),
+    ] {
+        let mut image = sample_image();
+        put(&mut image, 2 + 2 * field, value);
+        mend(&mut image, 0);
+        expect(&image, 9, 0);
+    }
+    // 9: every byte of the filler
+    let fillers = (2 + 28..510).chain(33 * 512 + 2 + 128..33 * 512 + 510);
+    for at in fillers {
+        let mut image = sample_image();
+        image[at] = 1;
+        mend(&mut image, at / 512);
+        expect(&image, 9, 0);
+    }
+    // The last byte of memory is not filler.
+    let mut image = sample_image();
+    image[33 * 512 + 2 + 127] ^= 0xFF;
+    mend(&mut image, 33);
+    let (state, mut memory) = sample();
+    memory[MEMORY_SIZE - 1] ^= 0xFF;
+    let mut read = vec![0; MEMORY_SIZE];
+    assert_eq!(read_image(&image, &mut read), refused(0, 0, state));
+    assert_eq!(read, memory);
+    // ST takes any value.
+    let mut image = sample_image();
+    put(&mut image, 2 + 2 * 4, 0xFFFF);
+    mend(&mut image, 0);
+    assert_eq!(read_image(&image, &mut read).state.st, 0xFFFF);
+}
