@@ -1,0 +1,81 @@
+-- The two calls: when they refuse, what they answer, and what the lent bytes are afterwards.
+use Prim.Native.Nat.{ℕ, zero, suc, _+_, _%_}
+use mathlib.Core.Bool.{Bool, true, false, not, _&&_}
+use mathlib.Core.List.{List}
+use lib.ListN.{length}
+use lib.Dec.{eqb}
+use Rattle.bits.specs.Bits.{if_then_else_}
+use Rattle.memory.specs.Memory.{size}
+use Rattle.machine.specs.declared.State.{State}
+use Rattle.machine.specs.State.{blank, well-formed}
+use Rattle.image.specs.declared.ReadAnswer.{ReadAnswer}
+use Rattle.image.specs.declared.WriteAnswer.{WriteAnswer}
+use Rattle.image.specs.Image as Image
+
+-- a refusal's number, and the block that it names; 0 where there is none
+pub record Fault : Type 0 where
+  pub number : ℕ
+  pub block : ℕ
+
+abbrev pub fault : ℕ → Fault
+fault n = record { number = n; block = 0 }
+
+-- Within a block the check comes before the number.
+unfoldable pub block-fault : List ℕ → ℕ → ℕ
+block-fault img i =
+    if not (eqb (Image.words-sum (Image.block-of img i) % 65536) 65535) then 6
+    else if not (eqb (Image.word-at (Image.block-of img i) 0) i) then 7
+    else 0
+
+-- the first fault of k blocks from number i on, judged block by block
+unfoldable pub first-fault : List ℕ → ℕ → ℕ → Fault
+first-fault img zero i = fault 0
+first-fault img (suc k) i =
+    if eqb (block-fault img i) 0 then first-fault img k (i + 1)
+    else record { number = block-fault img i; block = i }
+
+-- what block 0 says, once all blocks are in order
+unfoldable pub content-fault : List ℕ → ℕ
+content-fault img =
+    if not (eqb (Image.field-of img 0) Image.format && eqb (Image.field-of img 1) Image.edition) then 8
+    else if not (well-formed (Image.state-of img) && Image.zeros (Image.filler-of img)) then 9
+    else 0
+
+-- Reading: 1 memory's size, 5 the image's, 6 and 7 block by block, 8 format or edition, 9 fields or filler.
+unfoldable pub read-fault : List ℕ → List ℕ → Fault
+read-fault img m =
+    if not (eqb (length m) size) then fault 1
+    else if not (eqb (length img) Image.image-size) then fault 5
+    else if not (eqb (first-fault img Image.block-count 0 .number) 0) then first-fault img Image.block-count 0
+    else fault (content-fault img)
+
+pub record ReadResult : Type 0 where
+  pub answer : ReadAnswer
+  pub memory : List ℕ
+
+-- An accepted image gives its state and fills memory; a refusal returns the blank state and stores nothing.
+unfoldable pub read : List ℕ → List ℕ → ReadResult
+read img m =
+    if eqb (read-fault img m .number) 0
+    then record { answer = record { number = 0; block = 0; state = Image.state-of img }; memory = Image.memory-of img }
+    else record { answer = record { number = read-fault img m .number; block = read-fault img m .block; state = blank }; memory = m }
+
+-- Writing: 1 memory's size, 5 the buffer's, 2 the state.
+unfoldable pub write-fault : State → List ℕ → List ℕ → ℕ
+write-fault s m img =
+    if not (eqb (length m) size) then 1
+    else if not (eqb (length img) Image.image-size) then 5
+    else if not (well-formed s) then 2
+    else 0
+
+pub record WriteResult : Type 0 where
+  pub answer : WriteAnswer
+  pub image : List ℕ
+
+-- The state comes back as given; a refusal stores nothing.
+unfoldable pub write : State → List ℕ → List ℕ → WriteResult
+write s m img =
+    record {
+      answer = record { number = write-fault s m img; state = s };
+      image = if eqb (write-fault s m img) 0 then Image.image s m else img;
+    }

@@ -1,0 +1,48 @@
+-- What is claimed of the two calls together.
+use Prim.Native.Nat.{ℕ, _<_}
+use mathlib.Core.Path.{_≡_}
+use mathlib.Core.Bool.{Bool, true, false}
+use mathlib.Core.List.{List}
+use lib.ListN.{length}
+use Rattle.memory.specs.Memory.{size, Bytes}
+use Rattle.machine.specs.declared.State.{State}
+use Rattle.machine.specs.State.{well-formed}
+use Rattle.psi.specs.declared.Psi.{Psi}
+use Rattle.image.specs.Image as Image
+use Rattle.image.specs.Calls.{ReadResult, WriteResult, read, write, read-fault}
+
+-- every field is a number of 16 bits, as the code's types have it
+pub record Words (s : State) : Type 0 where
+  pub wp : s .wp < 65536
+  pub pc : s .pc < 65536
+  pub st : s .st < 65536
+  pub flags : s .flags < 65536
+  pub mask : s .psi .mask < 65536
+  pub direction : s .psi .direction < 65536
+  pub latch : s .psi .latch < 65536
+  pub load : s .psi .load < 65536
+  pub decrementer : s .psi .decrementer < 65536
+  pub reading : s .psi .reading < 65536
+  pub phase : s .psi .phase < 65536
+  pub pending : s .psi .pending < 65536
+
+-- Reading a written image gives back the state and the memory.
+abbrev pub Reads-what-was-written : Type 0
+Reads-what-was-written =
+    (s : State) (m buffer other : List ℕ)
+    → Words s → well-formed s ≡ true → length m ≡ size → Bytes m
+    → length buffer ≡ Image.image-size → length other ≡ size
+    → read (write s m buffer .image) other
+    ≡ record { answer = record { number = 0; block = 0; state = s }; memory = m }
+
+-- Writing what was read of an accepted image gives back the image's bytes.
+abbrev pub Writes-what-was-read : Type 0
+Writes-what-was-read =
+    (img m buffer : List ℕ)
+    → Bytes img → read img m .answer .number ≡ 0 → length buffer ≡ Image.image-size
+    → write (read img m .answer .state) (read img m .memory) buffer
+    ≡ record { answer = record { number = 0; state = read img m .answer .state }; image = img }
+
+-- A read is accepted exactly if the table names no refusal.
+abbrev pub Accepted-exactly : Type 0
+Accepted-exactly = (img m : List ℕ) → read img m .answer .number ≡ read-fault img m .number
