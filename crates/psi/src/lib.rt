@@ -1,9 +1,10 @@
 // The TMS 9901: its clock, its CRU bits and its request code.
 ghost use mathlib.Core.Path.{_≡_};
 ghost use Rattle.psi.specs.Psi as Own;
-ghost use Rattle.psi.specs.Clock as Clock;
 ghost use Rattle.psi.specs.Pins as Pins;
 ghost use Rattle.psi.specs.Cru as Cru;
+
+mod clock;
 
 // The state. `mask` holds the control bit at weight 1 and request n's mask at weight 2^n; `direction` (1: output) and
 // `latch` have port n at weight 2^n; `reading` is the read register.
