@@ -5,6 +5,7 @@ ghost use Rattle.psi.specs.Pins as Pins;
 ghost use Rattle.psi.specs.Cru as Cru;
 
 mod clock;
+mod pins;
 
 // The state. `mask` holds the control bit at weight 1 and request n's mask at weight 2^n; `direction` (1: output) and
 // `latch` have port n at weight 2^n; `reading` is the read register.
