@@ -30,14 +30,14 @@ impl Psi {
     }
 
     // While control is 0 the read register follows the decrementer.
-    fn followed(mut self) -> Psi
+    fn followed(self) -> Psi
         ensures { λ r. ⌜ r ≡ Clock.followed self ⌝ }
     {
-        if bits::bit(self.mask as u32, 0) {
-            return self;
+        if self.control() {
+            self
+        } else {
+            self.refreshed()
         }
-        self.reading = self.decrementer;
-        self
     }
 
     // One tick.

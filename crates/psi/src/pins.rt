@@ -14,7 +14,7 @@ fn port_weight(p: u32) -> u32
 
 impl Psi {
     // The level of port `p`'s pin.
-    fn port_level(self, levels: u32, p: u32) -> bool
+    pub(crate) fn port_level(self, levels: u32, p: u32) -> bool
         requires { ⌜ p < 16 ⌝ }
         ensures { λ r. ⌜ r ≡ Pins.port-level self levels p ⌝ }
     {
@@ -26,7 +26,7 @@ impl Psi {
     }
 
     // The level of pin INTn.
-    fn request_level(self, levels: u32, n: u32) -> bool
+    pub(crate) fn request_level(self, levels: u32, n: u32) -> bool
         requires { ⌜ (0 < n) × (n < 16) ⌝ }
         ensures { λ r. ⌜ r ≡ Pins.request-level self levels n ⌝ }
     {
