@@ -4,6 +4,7 @@ ghost use Prim.Native.Nat.{_<_};
 ghost use Rattle.psi.specs.Psi as Own;
 ghost use Rattle.psi.specs.Pins as Pins;
 ghost use Rattle.psi.specs.Cru as Cru;
+ghost use Rattle.psi.specs.Formed as Formed;
 
 mod clock;
 mod cru;
@@ -61,6 +62,19 @@ impl Psi {
     {
         self.reading = self.decrementer;
         self
+    }
+
+    // Whether the fields are the PSI's part of a well-formed state.
+    pub fn well_formed(self) -> bool
+        ensures { λ r. ⌜ r ≡ Formed.well-formed self ⌝ }
+    {
+        let numbers = (self.load <= Psi::CLOCK_LARGEST)
+            & (self.decrementer <= Psi::CLOCK_LARGEST)
+            & (self.reading <= Psi::CLOCK_LARGEST);
+        let flags = (self.phase < Psi::TICK_CYCLES) & (self.pending <= 1);
+        let latches = bits::without(self.latch, self.direction) == 0;
+        let read = self.control() | (self.reading == self.decrementer);
+        numbers & flags & latches & read
     }
 }
 
