@@ -26,14 +26,15 @@ beyond b d = record { 0 = (b .0 + d) % bit-numbers }
 unfoldable pub displacement : ℕ → ℕ
 displacement d = if ltb d 128 then d else (d + (bit-numbers - 256))
 
+-- Bits 1 to 15 with control 1: at 15 whether any enabled request is active; below it, the read register's bits.
+unfoldable pub timed-value : Psi → ℕ → ℕ → Bool
+timed-value s v n = if eqb n 15 then not (eqb (request s v) 0) else bit (n - 1) (s .reading)
+
 -- what bit n reads, by the table's rows
 unfoldable pub sensed-value : Psi → ℕ → ℕ → Bool
 sensed-value s v n =
     if eqb n 0 then control s
-    else if ltb n 16 then
-    (if not (control s) then request-level s v n
-    else if eqb n 15 then not (eqb (request s v) 0)
-    else bit (n - 1) (s .reading))
+    else if ltb n 16 then (if control s then timed-value s v n else request-level s v n)
     else if ltb n bits then port-level s v (n - 16)
     else true
 
@@ -45,24 +46,27 @@ sensed s v b =
       psi = if ltb (b .0) 16 then s else if ltb (b .0) bits then refreshed s else s;
     }
 
+-- Bit 0 is the control bit. Control becoming 0 refreshes the read register.
+unfoldable pub controlled : Psi → Bool → Psi
+controlled s x = if x then with-mask (put 0 x (s .mask)) s else refreshed (with-mask (put 0 x (s .mask)) s)
+
+-- Bits 1 to 15 with control 0: mask n. The mask of request 3 also clears pending.
+unfoldable pub masked : Psi → ℕ → Bool → Psi
+masked s n x = if eqb n 3 then with-pending 0 (with-mask (put n x (s .mask)) s) else with-mask (put n x (s .mask)) s
+
+-- Bits 1 to 15 with control 1: at 15 a 0 makes all ports inputs and all latches 0, and a 1 does nothing; below it, a load bit.
+unfoldable pub timed : Psi → ℕ → Bool → Psi
+timed s n x = if eqb n 15 then (if x then s else with-ports 0 0 s) else with-load (put (n - 1) x (s .load)) s
+
+-- Bits 16 to 31: the latch of port k takes the value and the port becomes an output; as any access here, this refreshes
+-- the read register.
+unfoldable pub latched : Psi → ℕ → Bool → Psi
+latched s k x = refreshed (with-ports (put k true (s .direction)) (put k x (s .latch)) s)
+
 -- what the PSI is after bit n was written, by the table's rows
 unfoldable pub driven : Psi → CruBit → Bool → Psi
-driven s b x = written (b .0)
-  where
-    -- Control becoming 0 refreshes the read register.
-    controlled : Psi
-    controlled = if x then with-mask (put 0 x (s .mask)) s else refreshed (with-mask (put 0 x (s .mask)) s)
-
-    -- The mask of request 3 also clears pending.
-    masked : ℕ → Psi
-    masked n = if eqb n 3 then with-pending 0 (with-mask (put n x (s .mask)) s) else with-mask (put n x (s .mask)) s
-
-    written : ℕ → Psi
-    written n =
-        if eqb n 0 then controlled
-        else if ltb n 16 then
-        (if not (control s) then masked n
-        else if eqb n 15 then (if x then s else with-ports 0 0 s)
-        else with-load (put (n - 1) x (s .load)) s)
-        else if ltb n bits then refreshed (with-ports (put (n - 16) true (s .direction)) (put (n - 16) x (s .latch)) s)
-        else s
+driven s b x =
+    if eqb (b .0) 0 then controlled s x
+    else if ltb (b .0) 16 then (if control s then timed s (b .0) x else masked s (b .0) x)
+    else if ltb (b .0) bits then latched s (b .0 - 16) x
+    else s

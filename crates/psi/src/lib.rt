@@ -1,9 +1,14 @@
 // The TMS 9901: its clock, its CRU bits and its request code.
 ghost use mathlib.Core.Path.{_≡_};
+ghost use Prim.Native.Nat.{_<_};
 ghost use Rattle.psi.specs.Psi as Own;
-ghost use Rattle.psi.specs.Clock as Clock;
 ghost use Rattle.psi.specs.Pins as Pins;
 ghost use Rattle.psi.specs.Cru as Cru;
+ghost use Rattle.psi.specs.Formed as Formed;
+
+mod clock;
+mod cru;
+mod pins;
 
 // The state. `mask` holds the control bit at weight 1 and request n's mask at weight 2^n; `direction` (1: output) and
 // `latch` have port n at weight 2^n; `reading` is the read register.
@@ -43,6 +48,34 @@ impl Psi {
             pending: 0,
         }
     }
+
+    // The control bit: 1 is clock mode.
+    pub(crate) fn control(self) -> bool
+        ensures { λ r. ⌜ r ≡ Own.control self ⌝ }
+    {
+        bits::bit(self.mask as u32, 0)
+    }
+
+    // The read register takes the decrementer's value.
+    pub(crate) fn refreshed(mut self) -> Psi
+        ensures { λ r. ⌜ r ≡ Own.refreshed self ⌝ }
+    {
+        self.reading = self.decrementer;
+        self
+    }
+
+    // Whether the fields are the PSI's part of a well-formed state.
+    pub fn well_formed(self) -> bool
+        ensures { λ r. ⌜ r ≡ Formed.well-formed self ⌝ }
+    {
+        let numbers = (self.load <= Psi::CLOCK_LARGEST)
+            & (self.decrementer <= Psi::CLOCK_LARGEST)
+            & (self.reading <= Psi::CLOCK_LARGEST);
+        let flags = (self.phase < Psi::TICK_CYCLES) & (self.pending <= 1);
+        let latches = bits::without(self.latch, self.direction) == 0;
+        let read = self.control() | (self.reading == self.decrementer);
+        numbers & flags & latches & read
+    }
 }
 
 // A number as R12 holds it.
@@ -80,6 +113,14 @@ impl CruBase {
     {
         CruBit(self.0 / 2 % 2048)
     }
+}
+
+// A signed 8-bit displacement as the number of bits further that it means where bit numbers wrap.
+pub fn displacement(d: u16) -> u16
+    requires { ⌜ d < 256 ⌝ }
+    ensures { λ r. ⌜ r ≡ Cru.displacement d ⌝ }
+{
+    if d < 128 { d } else { d + 1792 }
 }
 
 impl CruBit {

@@ -1,0 +1,19 @@
+-- `bits::swapped` meets its contract: the code is the definition, the low byte moved up and the high byte moved down, and nothing wraps.
+use mathlib.Core.Path.{refl}
+use borrow.Author.Needs.{needs}
+use Rattle.bits.specs.Logic.{swapped}
+use Rattle.bits.proofs.swapped.Statement.{statement}
+use Rattle.bits.proofs.swapped.Tie as tie
+
+mul-result : tie.Need-mul-result
+mul-result c = search needs
+
+add-result : tie.Need-add-result
+add-result c = search needs
+
+returns : tie.Need-returns
+unfolding swapped
+returns c = refl
+
+pub swapped-spec : {M : Type 1} → statement M
+swapped-spec = tie.close (tie.spec mul-result add-result returns)

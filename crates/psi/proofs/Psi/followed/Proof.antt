@@ -1,0 +1,22 @@
+-- The code tests the control bit as the definition does.
+use Rattle.psi.specs.Clock.{followed}
+use borrow.Author.Needs.{needs}
+use Rattle.psi.proofs.Psi.followed.Statement.{statement}
+use Rattle.psi.proofs.Psi.followed.Tie as tie
+
+control-requires : tie.Need-control-requires
+control-requires c κs = search needs
+
+refreshed-requires : tie.Need-refreshed-requires
+refreshed-requires c κs = search needs
+
+returns : tie.Need-returns
+unfolding followed
+returns c = rw (← c .before .control .ensures, c .if1 .taken)
+
+returns-2 : tie.Need-returns-2
+unfolding followed
+returns-2 c = rw (c .refreshed .ensures, ← c .before .before .control .ensures, c .before .if1 .left)
+
+pub followed-spec : {M : Type 1} → statement M
+followed-spec = tie.close (tie.spec control-requires refreshed-requires returns returns-2)

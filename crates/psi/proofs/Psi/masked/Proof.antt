@@ -1,0 +1,20 @@
+-- The code's test is the definition's.
+use borrow.Author.Tests.{eq-eqb, ne-eqb}
+use Rattle.psi.specs.Cru.{masked}
+use borrow.Author.Needs.{needs}
+use Rattle.psi.proofs.Psi.masked.Statement.{statement}
+use Rattle.psi.proofs.Psi.masked.Tie as tie
+
+put-requires : tie.Need-put-requires
+put-requires c κs = search needs
+
+returns : tie.Need-returns
+unfolding masked
+returns c = rw (eq-eqb _ _ (c .if1 .taken), c .before .put .ensures)
+
+returns-2 : tie.Need-returns-2
+unfolding masked
+returns-2 c = rw (ne-eqb _ _ (c .if1 .left), c .before .put .ensures)
+
+pub masked-spec : {M : Type 1} → statement M
+masked-spec = tie.close (tie.spec put-requires returns returns-2)

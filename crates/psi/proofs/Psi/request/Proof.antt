@@ -1,0 +1,68 @@
+-- The invariant: the search from n on gives what the whole search gives. It may end where no mask bit is left.
+use Prim.Native.Nat.{_≤_, _<_, _-_}
+use mathlib.Core.Path.{_≡_, refl, _∙_, sym}
+use native.Mathlib.Omega.{arith}
+use borrow.Author.Needs.{needs}
+use borrow.Author.Tests.{eqb-true, eqb-false, not-true, not-false}
+use Rattle.psi.specs.Pins.{lowest, request}
+use Rattle.psi.proofs.Search.{below-width, lowest-none, lowest-here, lowest-beyond}
+use Rattle.psi.proofs.Psi.request.Statement.{statement}
+use Rattle.psi.proofs.Psi.request.Tie as tie
+
+abbrev Inv-loop : tie.InvT-loop
+Inv-loop self levels mask n₀ n = (0 < n) × (n ≤ 16) × (lowest self levels 15 1 ≡ lowest self levels (16 - n) n)
+
+abbrev μ-loop : tie.MeasureT-loop
+μ-loop self levels mask n₀ n = 16 - n
+
+cast-mask : tie.Need-cast-mask Inv-loop μ-loop
+cast-mask c = search needs
+
+loop-holds : tie.Need-loop-holds Inv-loop μ-loop
+loop-holds c = search needs
+
+shr-loop : tie.Need-shr-loop Inv-loop μ-loop
+shr-loop c = search needs
+
+inside : (c : tie.In-loop Inv-loop μ-loop) → c .before .loop .n < 16
+inside c = below-width 16 _ _ (omega arith) (c .loop-test .taken)
+
+requested-requires : tie.Need-requested-requires Inv-loop μ-loop
+requested-requires c κs = omega (arith, inside c)
+
+cast-result : tie.Need-cast-result Inv-loop μ-loop
+cast-result c = omega (arith, inside (c .before .before))
+
+returns : tie.Need-returns Inv-loop μ-loop
+unfolding request
+returns c = sym (c .before .before .before .loop .inv .2 ∙ lowest-here _ _ _ (inside (c .before .before)) (sym (c .before .requested .ensures) ∙ c .if1 .taken))
+
+add-n : tie.Need-add-n Inv-loop μ-loop
+add-n c = search needs
+
+loop-less : tie.Need-loop-less Inv-loop μ-loop
+loop-less c = omega (arith, inside (c .before .before))
+
+loop-again : tie.Need-loop-again Inv-loop μ-loop
+loop-again c = (search needs, omega (arith, inside (c .before .before)), c .before .before .before .loop .inv .2 ∙ lowest-beyond _ _ _ (inside (c .before .before)) (sym (c .before .requested .ensures) ∙ c .if1 .left))
+
+returns-2 : tie.Need-returns-2 Inv-loop μ-loop
+unfolding request
+returns-2 c = sym (c .before .loop .inv .2 ∙ lowest-none _ _ _ _ (c .loop-test .left))
+
+pub request-spec : {M : Type 1} → statement M
+request-spec =
+    tie.close
+    (tie.spec
+    Inv-loop
+    μ-loop
+    cast-mask
+    loop-holds
+    shr-loop
+    requested-requires
+    cast-result
+    returns
+    add-n
+    loop-less
+    loop-again
+    returns-2)

@@ -1,0 +1,25 @@
+-- The mask bit is tested first, as in the definition.
+use Rattle.psi.specs.Pins.{requested}
+use borrow.Author.Needs.{needs}
+use Rattle.psi.proofs.Psi.requested.Statement.{statement}
+use Rattle.psi.proofs.Psi.requested.Tie as tie
+
+cast-bit : tie.Need-cast-bit
+cast-bit c = search needs
+
+bit-requires : tie.Need-bit-requires
+bit-requires c κs = search needs
+
+active-requires : tie.Need-active-requires
+active-requires c κs = search needs
+
+returns : tie.Need-returns
+unfolding requested
+returns c = rw (c .active .ensures, ← c .before .before .bit .ensures, c .before .if1 .taken)
+
+returns-2 : tie.Need-returns-2
+unfolding requested
+returns-2 c = rw (← c .before .bit .ensures, c .if1 .left)
+
+pub requested-spec : {M : Type 1} → statement M
+requested-spec = tie.close (tie.spec cast-bit bit-requires active-requires returns returns-2)

@@ -1,0 +1,30 @@
+-- The code's test is the definition's.
+use borrow.Author.Tests.{eq-eqb, ne-eqb}
+use Rattle.psi.specs.Cru.{timed-value}
+use borrow.Author.Needs.{needs}
+use Rattle.psi.proofs.Psi.timed_value.Statement.{statement}
+use Rattle.psi.proofs.Psi.timed_value.Tie as tie
+
+request-requires : tie.Need-request-requires
+request-requires c κs = search needs
+
+cast-bit : tie.Need-cast-bit
+cast-bit c = search needs
+
+sub-bit : tie.Need-sub-bit
+sub-bit c = search needs
+
+bit-requires : tie.Need-bit-requires
+bit-requires c κs = search needs
+
+returns : tie.Need-returns
+unfolding timed-value
+returns c = rw (eq-eqb _ _ (c .before .if1 .taken), c .request .ensures)
+
+returns-2 : tie.Need-returns-2
+unfolding timed-value
+returns-2 c = rw (ne-eqb _ _ (c .before .before .if1 .left), c .bit .ensures)
+
+pub timed-value-spec : {M : Type 1} → statement M
+timed-value-spec =
+    tie.close (tie.spec request-requires cast-bit sub-bit bit-requires returns returns-2)

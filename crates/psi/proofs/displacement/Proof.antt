@@ -1,0 +1,20 @@
+-- The code's test is the definition's.
+use borrow.Author.Tests.{lt-ltb, le-ltb}
+use Rattle.psi.specs.Cru.{displacement}
+use borrow.Author.Needs.{needs}
+use Rattle.psi.proofs.displacement.Statement.{statement}
+use Rattle.psi.proofs.displacement.Tie as tie
+
+add-result : tie.Need-add-result
+add-result c = search needs
+
+returns : tie.Need-returns
+unfolding displacement
+returns c = rw (lt-ltb _ _ (c .if1 .taken))
+
+returns-2 : tie.Need-returns-2
+unfolding displacement
+returns-2 c = rw (le-ltb _ _ (c .if1 .left))
+
+pub displacement-spec : {M : Type 1} → statement M
+displacement-spec = tie.close (tie.spec add-result returns returns-2)
