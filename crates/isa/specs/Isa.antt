@@ -1,7 +1,7 @@
 -- What each of the 65536 words is, and how many further words it takes.
 use Prim.Native.Nat.{ℕ, _+_, _/_, _%_}
 use mathlib.Core.Bool.{Bool, true, false}
-use lib.Dec.{eqb, ltb}
+use lib.Dec.{eqb, leb, ltb}
 use Rattle.bits.specs.Bits.{if_then_else_}
 use Rattle.memory.specs.declared.Width.{Width}
 use Rattle.memory.specs.declared.Width.the-variants.{Byte, Word}
@@ -35,115 +35,142 @@ source w = record { mode = w / 16 % 4; register = w % 16 }
 unfoldable pub destination : ℕ → Operand
 destination w = source (w / 64)
 
--- 4000 to FFFF: the weight 4096 tells bytes from words
-unfoldable pub dual : ℕ → Instruction
-dual w = Dual operation (if eqb (w / 4096 % 2) 1 then Byte else Word) (source w) (destination w)
-  where
-    operation : DualOp
-    operation =
-        if eqb (w / 8192) 2 then Szc
-        else if eqb (w / 8192) 3 then S
-        else if eqb (w / 8192) 4 then C
-        else if eqb (w / 8192) 5 then A
-        else if eqb (w / 8192) 6 then Mov
-        else Soc
+-- 4000 to FFFF: the weights from 8192 on are the operation's code, the weight 4096 tells bytes from words
+unfoldable pub dual-operation : ℕ → DualOp
+dual-operation code =
+    if eqb code 2 then Szc
+    else if eqb code 3 then S
+    else if eqb code 4 then C
+    else if eqb code 5 then A
+    else if eqb code 6 then Mov
+    else Soc
 
--- 2000 to 3FFF
+unfoldable pub dual-width : ℕ → Width
+dual-width w = if eqb (w / 4096 % 2) 1 then Byte else Word
+
+unfoldable pub dual : ℕ → Instruction
+dual w = Dual (dual-operation (w / 8192)) (dual-width w) (source w) (destination w)
+
+-- 2000 to 3FFF: the weights from 1024 on are the code, the four below it a register, XOP's number or a count of bits
+unfoldable pub register-operation : ℕ → RegisterOp
+register-operation code =
+    if eqb code 8 then Coc
+    else if eqb code 9 then Czc
+    else if eqb code 10 then Xor
+    else if eqb code 14 then Mpy
+    else Div
+
 unfoldable pub with-register : ℕ → Instruction
 with-register w =
-    if eqb (w / 1024) 8 then Register Coc (source w) d
-    else if eqb (w / 1024) 9 then Register Czc (source w) d
-    else if eqb (w / 1024) 10 then Register Xor (source w) d
-    else if eqb (w / 1024) 11 then Xop (source w) d
-    else if eqb (w / 1024) 12 then Transfer Ldcr (source w) d
-    else if eqb (w / 1024) 13 then Transfer Stcr (source w) d
-    else if eqb (w / 1024) 14 then Register Mpy (source w) d
-    else Register Div (source w) d
-  where
-    d : ℕ
-    d = w / 64 % 16
+    if eqb (w / 1024) 11 then Xop (source w) (w / 64 % 16)
+    else if eqb (w / 1024) 12 then Transfer Ldcr (source w) (w / 64 % 16)
+    else if eqb (w / 1024) 13 then Transfer Stcr (source w) (w / 64 % 16)
+    else Register (register-operation (w / 1024)) (source w) (w / 64 % 16)
 
--- 1000 to 1FFF
+-- 1000 to 1FFF: the high byte is the code, the low byte the displacement; jumps, and from 1D00 on single CRU bits
+unfoldable pub jump-operation : ℕ → JumpOp
+jump-operation code =
+    if eqb code 16 then Jmp
+    else if eqb code 17 then Jlt
+    else if eqb code 18 then Jle
+    else if eqb code 19 then Jeq
+    else if eqb code 20 then Jhe
+    else if eqb code 21 then Jgt
+    else if eqb code 22 then Jne
+    else if eqb code 23 then Jnc
+    else if eqb code 24 then Joc
+    else if eqb code 25 then Jno
+    else if eqb code 26 then Jl
+    else if eqb code 27 then Jh
+    else Jop
+
+unfoldable pub bit-operation : ℕ → BitOp
+bit-operation code =
+    if eqb code 29 then Sbo
+    else if eqb code 30 then Sbz
+    else Tb
+
 unfoldable pub with-displacement : ℕ → Instruction
 with-displacement w =
-    if eqb (w / 256) 16 then Jump Jmp d
-    else if eqb (w / 256) 17 then Jump Jlt d
-    else if eqb (w / 256) 18 then Jump Jle d
-    else if eqb (w / 256) 19 then Jump Jeq d
-    else if eqb (w / 256) 20 then Jump Jhe d
-    else if eqb (w / 256) 21 then Jump Jgt d
-    else if eqb (w / 256) 22 then Jump Jne d
-    else if eqb (w / 256) 23 then Jump Jnc d
-    else if eqb (w / 256) 24 then Jump Joc d
-    else if eqb (w / 256) 25 then Jump Jno d
-    else if eqb (w / 256) 26 then Jump Jl d
-    else if eqb (w / 256) 27 then Jump Jh d
-    else if eqb (w / 256) 28 then Jump Jop d
-    else if eqb (w / 256) 29 then Bit Sbo d
-    else if eqb (w / 256) 30 then Bit Sbz d
-    else Bit Tb d
-  where
-    d : ℕ
-    d = w % 256
+    if ltb w 0x1D00 then Jump (jump-operation (w / 256)) (w % 256)
+    else Bit (bit-operation (w / 256)) (w % 256)
 
--- 0800 to 0FFF; from 0C00 on unassigned
+-- 0800 to 0FFF: the high byte is the code, then the count, then the register; from 0C00 on unassigned
+unfoldable pub shift-operation : ℕ → ShiftOp
+shift-operation code =
+    if eqb code 8 then Sra
+    else if eqb code 9 then Srl
+    else if eqb code 10 then Sla
+    else Src
+
 unfoldable pub shift : ℕ → Instruction
 shift w =
-    if eqb (w / 256) 8 then Shift Sra (w % 16) (w / 16 % 16)
-    else if eqb (w / 256) 9 then Shift Srl (w % 16) (w / 16 % 16)
-    else if eqb (w / 256) 10 then Shift Sla (w % 16) (w / 16 % 16)
-    else if eqb (w / 256) 11 then Shift Src (w % 16) (w / 16 % 16)
+    if ltb w 0x0C00 then Shift (shift-operation (w / 256)) (w % 16) (w / 16 % 16)
     else Unassigned
 
--- 0400 to 07FF; from 0780 on unassigned
+-- 0400 to 07FF: the weights from 64 on are the code; from 0780 on unassigned
+unfoldable pub single-operation : ℕ → SingleOp
+single-operation code =
+    if eqb code 17 then B
+    else if eqb code 19 then Clr
+    else if eqb code 20 then Neg
+    else if eqb code 21 then Inv
+    else if eqb code 22 then Inc
+    else if eqb code 23 then Inct
+    else if eqb code 24 then Dec
+    else if eqb code 25 then Dect
+    else if eqb code 26 then Bl
+    else if eqb code 27 then Swpb
+    else if eqb code 28 then Seto
+    else Abs
+
 unfoldable pub single : ℕ → Instruction
 single w =
-    if eqb (w / 64) 16 then Blwp (source w)
-    else if eqb (w / 64) 17 then Single B (source w)
+    if ltb w 0x0780 then
+    (if eqb (w / 64) 16 then Blwp (source w)
     else if eqb (w / 64) 18 then X (source w)
-    else if eqb (w / 64) 19 then Single Clr (source w)
-    else if eqb (w / 64) 20 then Single Neg (source w)
-    else if eqb (w / 64) 21 then Single Inv (source w)
-    else if eqb (w / 64) 22 then Single Inc (source w)
-    else if eqb (w / 64) 23 then Single Inct (source w)
-    else if eqb (w / 64) 24 then Single Dec (source w)
-    else if eqb (w / 64) 25 then Single Dect (source w)
-    else if eqb (w / 64) 26 then Single Bl (source w)
-    else if eqb (w / 64) 27 then Single Swpb (source w)
-    else if eqb (w / 64) 28 then Single Seto (source w)
-    else if eqb (w / 64) 29 then Single Abs (source w)
+    else Single (single-operation (w / 64)) (source w))
     else Unassigned
 
--- 0200 to 03FF: the immediate forms, STWP and STST ignore weight 16, LWPI, LIMI and the control forms the low five bits
+-- 0200 to 03FF: the weights from 32 on are the code. The immediate forms, STWP and STST ignore weight 16, LWPI, LIMI and the
+-- control forms the low five bits.
+unfoldable pub immediate-operation : ℕ → ImmediateOp
+immediate-operation code =
+    if eqb code 16 then Li
+    else if eqb code 17 then Ai
+    else if eqb code 18 then Andi
+    else if eqb code 19 then Ori
+    else Ci
+
+unfoldable pub control-operation : ℕ → ControlOp
+control-operation code =
+    if eqb code 26 then Idle
+    else if eqb code 27 then Rset
+    else if eqb code 28 then Rtwp
+    else if eqb code 29 then Ckon
+    else if eqb code 30 then Ckof
+    else Lrex
+
 unfoldable pub immediate : ℕ → Instruction
 immediate w =
-    if eqb (w / 32) 16 then Immediate Li (w % 16)
-    else if eqb (w / 32) 17 then Immediate Ai (w % 16)
-    else if eqb (w / 32) 18 then Immediate Andi (w % 16)
-    else if eqb (w / 32) 19 then Immediate Ori (w % 16)
-    else if eqb (w / 32) 20 then Immediate Ci (w % 16)
+    if ltb w 0x02A0 then Immediate (immediate-operation (w / 32)) (w % 16)
     else if eqb (w / 32) 21 then Stwp (w % 16)
     else if eqb (w / 32) 22 then Stst (w % 16)
     else if eqb (w / 32) 23 then Lwpi
     else if eqb (w / 32) 24 then Limi
     else if eqb (w / 32) 25 then Unassigned
-    else if eqb (w / 32) 26 then Control Idle
-    else if eqb (w / 32) 27 then Control Rset
-    else if eqb (w / 32) 28 then Control Rtwp
-    else if eqb (w / 32) 29 then Control Ckon
-    else if eqb (w / 32) 30 then Control Ckof
-    else Control Lrex
+    else Control (control-operation (w / 32))
 
 -- Unassigned: 0000 to 01FF, 0320 to 033F, 0780 to 07FF, 0C00 to 0FFF.
 unfoldable pub decoded : ℕ → Instruction
 decoded w =
-    if ltb w 512 then Unassigned
-    else if ltb w 1024 then immediate w
-    else if ltb w 2048 then single w
-    else if ltb w 4096 then shift w
-    else if ltb w 8192 then with-displacement w
-    else if ltb w 16384 then with-register w
-    else dual w
+    if leb 0x4000 w then dual w
+    else if leb 0x2000 w then with-register w
+    else if leb 0x1000 w then with-displacement w
+    else if leb 0x0800 w then shift w
+    else if leb 0x0400 w then single w
+    else if leb 0x0200 w then immediate w
+    else Unassigned
 
 -- a general operand takes a further word where its mode is 2
 unfoldable pub operand-words : Operand → ℕ

@@ -1,0 +1,15 @@
+-- `isa::destination` meets its contract: it is the source of the word less its low six bits.
+use borrow.Author.Needs.{needs}
+use Rattle.isa.specs.Isa.{destination}
+use Rattle.isa.proofs.destination.Statement.{statement}
+use Rattle.isa.proofs.destination.Tie as tie
+
+source-requires : tie.Need-source-requires
+source-requires c κs = search needs
+
+returns : tie.Need-returns
+unfolding destination
+returns c = c .source .ensures
+
+pub destination-spec : {M : Type 1} → statement M
+destination-spec = tie.close (tie.spec source-requires returns)

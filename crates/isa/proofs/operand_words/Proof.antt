@@ -1,0 +1,16 @@
+-- `isa::operand_words` meets its contract: the code's test is the definition's.
+use borrow.Author.Tests.{eq-eqb, ne-eqb}
+use Rattle.isa.specs.Isa.{operand-words}
+use Rattle.isa.proofs.operand_words.Statement.{statement}
+use Rattle.isa.proofs.operand_words.Tie as tie
+
+returns : tie.Need-returns
+unfolding operand-words
+returns c = rw (eq-eqb _ _ (c .if1 .taken))
+
+returns-2 : tie.Need-returns-2
+unfolding operand-words
+returns-2 c = rw (ne-eqb _ _ (c .if1 .left))
+
+pub operand-words-spec : {M : Type 1} → statement M
+operand-words-spec = tie.close (tie.spec returns returns-2)

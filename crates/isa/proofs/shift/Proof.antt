@@ -1,0 +1,20 @@
+-- `isa::shift` meets its contract: the code's test is the definition's.
+use borrow.Author.Needs.{needs}
+use borrow.Author.Tests.{lt-ltb, le-ltb}
+use Rattle.isa.specs.Isa.{shift}
+use Rattle.isa.proofs.shift.Statement.{statement}
+use Rattle.isa.proofs.shift.Tie as tie
+
+shift-operation-requires : tie.Need-shift-operation-requires
+shift-operation-requires c κs = search needs
+
+returns : tie.Need-returns
+unfolding shift
+returns c = rw (lt-ltb _ _ (c .before .if1 .taken)) (cc)
+
+returns-2 : tie.Need-returns-2
+unfolding shift
+returns-2 c = rw (le-ltb _ _ (c .if1 .left))
+
+pub shift-spec : {M : Type 1} → statement M
+shift-spec = tie.close (tie.spec shift-operation-requires returns returns-2)

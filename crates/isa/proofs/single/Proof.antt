@@ -1,0 +1,33 @@
+-- `isa::single` meets its contract: the code's test and the match's keys are the definition's tests.
+use borrow.Author.Needs.{needs}
+use borrow.Author.Tests.{lt-ltb, le-ltb, ne-eqb}
+use Rattle.isa.specs.Isa.{single}
+use Rattle.isa.proofs.single.Statement.{statement}
+use Rattle.isa.proofs.single.Tie as tie
+
+source-requires : tie.Need-source-requires
+source-requires c κs = search needs
+
+single-operation-requires : tie.Need-single-operation-requires
+single-operation-requires c κs = search needs
+
+returns : tie.Need-returns
+unfolding single
+returns c = rw (lt-ltb _ _ (c .before .before .if1 .taken), c .match .keys1) (cc)
+
+returns-2 : tie.Need-returns-2
+unfolding single
+returns-2 c = rw (lt-ltb _ _ (c .before .before .if1 .taken), c .match .keys2) (cc)
+
+returns-3 : tie.Need-returns-3
+unfolding single
+returns-3 c =
+    simp (lt-ltb _ _ (c .before .before .before .if1 .taken), ne-eqb _ _ (c .before .match .rest .1), ne-eqb _ _ (c .before .match .rest .0 .1)) (cc)
+
+returns-4 : tie.Need-returns-4
+unfolding single
+returns-4 c = rw (le-ltb _ _ (c .if1 .left))
+
+pub single-spec : {M : Type 1} → statement M
+single-spec =
+    tie.close (tie.spec source-requires single-operation-requires returns returns-2 returns-3 returns-4)

@@ -1,0 +1,23 @@
+-- `isa::with_displacement` meets its contract: the code's test is the definition's.
+use borrow.Author.Needs.{needs}
+use borrow.Author.Tests.{lt-ltb, le-ltb}
+use Rattle.isa.specs.Isa.{with-displacement}
+use Rattle.isa.proofs.with_displacement.Statement.{statement}
+use Rattle.isa.proofs.with_displacement.Tie as tie
+
+jump-operation-requires : tie.Need-jump-operation-requires
+jump-operation-requires c κs = search needs
+
+bit-operation-requires : tie.Need-bit-operation-requires
+bit-operation-requires c κs = search needs
+
+returns : tie.Need-returns
+unfolding with-displacement
+returns c = rw (lt-ltb _ _ (c .before .if1 .taken)) (cc)
+
+returns-2 : tie.Need-returns-2
+unfolding with-displacement
+returns-2 c = rw (le-ltb _ _ (c .before .if1 .left)) (cc)
+
+pub with-displacement-spec : {M : Type 1} → statement M
+with-displacement-spec = tie.close (tie.spec jump-operation-requires bit-operation-requires returns returns-2)

@@ -1,0 +1,33 @@
+-- `isa::with_register` meets its contract: the match's keys are the definition's tests.
+use borrow.Author.Needs.{needs}
+use borrow.Author.Tests.{ne-eqb}
+use Rattle.isa.specs.Isa.{with-register}
+use Rattle.isa.proofs.with_register.Statement.{statement}
+use Rattle.isa.proofs.with_register.Tie as tie
+
+source-requires : tie.Need-source-requires
+source-requires c κs = search needs
+
+register-operation-requires : tie.Need-register-operation-requires
+register-operation-requires c κs = search needs
+
+returns : tie.Need-returns
+unfolding with-register
+returns c = rw (c .match .keys1, c .before .source .ensures)
+
+returns-2 : tie.Need-returns-2
+unfolding with-register
+returns-2 c = rw (c .match .keys2, c .before .source .ensures)
+
+returns-3 : tie.Need-returns-3
+unfolding with-register
+returns-3 c = rw (c .match .keys3, c .before .source .ensures)
+
+returns-4 : tie.Need-returns-4
+unfolding with-register
+returns-4 c =
+    simp (ne-eqb _ _ (c .before .match .rest .1), ne-eqb _ _ (c .before .match .rest .0 .1), ne-eqb _ _ (c .before .match .rest .0 .0 .1)) (cc)
+
+pub with-register-spec : {M : Type 1} → statement M
+with-register-spec =
+    tie.close (tie.spec source-requires register-operation-requires returns returns-2 returns-3 returns-4)
