@@ -1,12 +1,8 @@
 // Arithmetic and status over a width.
-ghost use mathlib.Core.Path.{_≡_};
-ghost use Rattle.alu.specs.Status as Status;
-ghost use Rattle.alu.specs.Sums as Sums;
-ghost use Rattle.alu.specs.Shifts as Shifts;
-ghost use Rattle.alu.specs.Products as Products;
-use isa::JumpOp;
-use isa::ShiftOp;
-use memory::Width;
+pub mod products;
+pub mod shifts;
+pub mod status;
+pub mod sums;
 
 // A result and the status after it.
 pub struct Outcome {

@@ -1,0 +1,38 @@
+-- Bounds that hold at either width: a width has at most 65536 values, and a raised number is one of them.
+use Prim.Native.Nat.{ℕ, _+_, _-_, _*_, _/_, _%_, _^_, _<_, _≤_}
+use mathlib.Core.Path.{_≡_}
+use native.Mathlib.Omega.{arith}
+use native.Mathlib.Nat.{mod-lt, le-of-lt, lt-of-le-of-lt, mul-le-mul-left, mul-lt-mul-of-pos-right, div-lt-iff-lt-mul}
+use lib.Pow.{pow-add, pow-pos}
+use Rattle.memory.specs.declared.Width.{Width}
+use Rattle.memory.specs.declared.Width.the-variants.{Byte, Word}
+use Rattle.memory.specs.Memory.{modulus}
+use Rattle.alu.specs.Status.{raised}
+
+pub modulus-bounds : (w : Width) → (0 < modulus w) × (modulus w ≤ 65536)
+modulus-bounds Byte = omega arith
+modulus-bounds Word = omega arith
+
+pub raised-below : (w : Width) (a : ℕ) → raised w a < modulus w
+unfolding raised
+raised-below w a = mod-lt _ (modulus-bounds w .0)
+
+-- reducing to a word first loses nothing, at either width
+pub reduced-twice : (w : Width) (x : ℕ) → x % 65536 % modulus w ≡ x % modulus w
+reduced-twice Byte x = omega arith
+reduced-twice Word x = omega arith
+
+-- what `wrapping_sub_u16` ensures tells the difference
+pub wrapped-difference : (d s r : ℕ) → d < 65536 → s < 65536 → r < 65536 → (r + s) % 65536 ≡ d → r ≡ (d + (65536 - s)) % 65536
+wrapped-difference d s r hd hs hr e = omega arith
+
+-- the product of two numbers of k bits has at most twice as many
+pub product-below : (k : ℕ) {a b : ℕ} → a < 2 ^ k → b < 2 ^ k → a * b < 2 ^ (k + k)
+product-below k {a} {b} ha hb = rw (pow-add 2 k k) (lt-of-le-of-lt (mul-le-mul-left a (le-of-lt hb)) (mul-lt-mul-of-pos-right ha (pow-pos k)))
+
+-- a divisor above the high word leaves a quotient of one word
+pub quotient-below : (d high low : ℕ) → high < d → low < 65536 → (high * 65536 + low) / d < 65536
+quotient-below d high low h l =
+    let room : high * 65536 + low < 65536 * d = omega arith in
+    let some : 0 < d = omega arith in
+    div-lt-iff-lt-mul some .1 room

@@ -1,0 +1,30 @@
+-- `alu::status::compared` meets its contract: the three bits are put as the definition puts them, and `raised` is its own.
+use mathlib.Core.Path.{_≡_}
+use Rattle.alu.specs.Status.{compared}
+use borrow.Author.Needs.{needs}
+use Rattle.alu.proofs.status.compared.Statement.{statement}
+use Rattle.alu.proofs.status.compared.Tie as tie
+
+put-requires : tie.Need-put-requires
+put-requires c κs = search needs
+
+raised-requires : tie.Need-raised-requires
+raised-requires c κs = search needs
+
+raised-requires-2 : tie.Need-raised-requires-2
+raised-requires-2 c κs = search needs
+
+put-requires-2 : tie.Need-put-requires-2
+put-requires-2 c κs = search needs
+
+put-requires-3 : tie.Need-put-requires-3
+put-requires-3 c κs = search needs
+
+returns : tie.Need-returns
+unfolding compared
+returns c = cc
+
+pub compared-spec : {M : Type 1} → statement M
+compared-spec =
+    tie.close
+    (tie.spec put-requires raised-requires raised-requires-2 put-requires-2 put-requires-3 returns)

@@ -1,0 +1,19 @@
+-- `alu::status::judged` meets its contract: the comparison with 0, then the parity.
+use mathlib.Core.Path.{_≡_}
+use Rattle.alu.specs.Status.{judged}
+use borrow.Author.Needs.{needs}
+use Rattle.alu.proofs.status.judged.Statement.{statement}
+use Rattle.alu.proofs.status.judged.Tie as tie
+
+compared-requires : tie.Need-compared-requires
+compared-requires c κs = search needs
+
+parity-requires : tie.Need-parity-requires
+parity-requires c κs = search needs
+
+returns : tie.Need-returns
+unfolding judged
+returns c = cc
+
+pub judged-spec : {M : Type 1} → statement M
+judged-spec = tie.close (tie.spec compared-requires parity-requires returns)

@@ -1,0 +1,21 @@
+-- `alu::status::reduced` meets its contract: a byte is what is left modulo 256, and every word is below 65536.
+use mathlib.Core.Path.{_≡_, sym}
+use native.Mathlib.Nat.{mod-eq-of-lt}
+use borrow.Author.Needs.{needs}
+use Rattle.alu.proofs.status.reduced.Statement.{statement}
+use Rattle.alu.proofs.status.reduced.Tie as tie
+
+enum-told : tie.Need-enum-told
+enum-told c = search needs
+
+enum-told-2 : tie.Need-enum-told-2
+enum-told-2 c = search needs
+
+returns : tie.Need-returns
+returns c = rw (c .enum-told .given .1)
+
+returns-2 : tie.Need-returns-2
+returns-2 c = rw (c .enum-told2 .given .1) (sym (mod-eq-of-lt (c .before .before .fits .v .fits)))
+
+pub reduced-spec : {M : Type 1} → statement M
+reduced-spec = tie.close (tie.spec enum-told enum-told-2 returns returns-2)

@@ -1,0 +1,42 @@
+-- `alu::sums::difference` meets its contract: the wrapped difference reduced to the width is the definition's, and carry and overflow
+-- are those of the definition.
+use Prim.Native.Nat.{_+_, _-_}
+use mathlib.Core.Path.{_≡_}
+use native.Mathlib.Omega.{arith}
+use Rattle.alu.specs.Sums.{difference}
+use Rattle.alu.proofs.Laws.{reduced-twice, wrapped-difference}
+use borrow.Author.Needs.{needs}
+use Rattle.alu.proofs.sums.difference.Statement.{statement}
+use Rattle.alu.proofs.sums.difference.Tie as tie
+
+wrapping-sub-u16-requires : tie.Need-wrapping-sub-u16-requires
+wrapping-sub-u16-requires c κs = search needs
+
+reduced-requires : tie.Need-reduced-requires
+reduced-requires c κs = search needs
+
+judged-requires : tie.Need-judged-requires
+judged-requires c κs = search needs
+
+difference-overflows-requires : tie.Need-difference-overflows-requires
+difference-overflows-requires c κs = search needs
+
+carried-requires : tie.Need-carried-requires
+carried-requires c κs = search needs
+
+returns : tie.Need-returns
+unfolding difference
+returns c = let a = c .before .before .before .before .before .args in
+    let w = c .before .before .before .before .wrapping-sub-u16 in
+    cc (reduced-twice (a .width) (a .d + (65536 - a .s)), wrapped-difference (a .d) (a .s) (w .result) (omega arith) (omega arith) (omega arith) (w .ensures))
+
+pub difference-spec : {M : Type 1} → statement M
+difference-spec =
+    tie.close
+    (tie.spec
+    wrapping-sub-u16-requires
+    reduced-requires
+    judged-requires
+    difference-overflows-requires
+    carried-requires
+    returns)

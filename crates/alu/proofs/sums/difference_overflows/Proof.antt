@@ -1,0 +1,34 @@
+-- `alu::sums::difference_overflows` meets its contract: the code is the definition, and the raised numbers are small.
+use mathlib.Core.Path.{_≡_}
+use native.Mathlib.Omega.{arith}
+use Rattle.alu.specs.Sums.{difference-overflows}
+use Rattle.alu.proofs.Laws.{modulus-bounds, raised-below}
+use borrow.Author.Needs.{needs}
+use Rattle.alu.proofs.sums.difference_overflows.Statement.{statement}
+use Rattle.alu.proofs.sums.difference_overflows.Tie as tie
+
+modulus-requires : tie.Need-modulus-requires
+modulus-requires c κs = search needs
+
+raised-requires : tie.Need-raised-requires
+raised-requires c κs = search needs
+
+raised-requires-2 : tie.Need-raised-requires-2
+raised-requires-2 c κs = search needs
+
+add-result : tie.Need-add-result
+add-result c = let w = c .before .before .before .args .width in
+    omega (arith, modulus-bounds w, raised-below w (c .before .before .before .args .d), c .before .raised .ensures, c .before .before .modulus .ensures)
+
+add-result-2 : tie.Need-add-result-2
+add-result-2 c = let w = c .before .before .before .args .width in
+    omega (arith, modulus-bounds w, raised-below w (c .before .before .before .args .s), c .raised2 .ensures, c .before .before .modulus .ensures)
+
+returns : tie.Need-returns
+unfolding difference-overflows
+returns c = cc
+
+pub difference-overflows-spec : {M : Type 1} → statement M
+difference-overflows-spec =
+    tie.close
+    (tie.spec modulus-requires raised-requires raised-requires-2 add-result add-result-2 returns)

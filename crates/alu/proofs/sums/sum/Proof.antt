@@ -1,0 +1,47 @@
+-- `alu::sums::sum` meets its contract: the wrapped sum reduced to the width is the sum reduced to it, and carry and overflow are
+-- those of the definition.
+use Prim.Native.Nat.{_+_}
+use mathlib.Core.Path.{_≡_}
+use Rattle.alu.specs.Sums.{sum}
+use Rattle.alu.proofs.Laws.{reduced-twice}
+use borrow.Author.Needs.{needs}
+use Rattle.alu.proofs.sums.sum.Statement.{statement}
+use Rattle.alu.proofs.sums.sum.Tie as tie
+
+wrapping-add-u16-requires : tie.Need-wrapping-add-u16-requires
+wrapping-add-u16-requires c κs = search needs
+
+reduced-requires : tie.Need-reduced-requires
+reduced-requires c κs = search needs
+
+modulus-requires : tie.Need-modulus-requires
+modulus-requires c κs = search needs
+
+add-carry : tie.Need-add-carry
+add-carry c = search needs
+
+judged-requires : tie.Need-judged-requires
+judged-requires c κs = search needs
+
+sum-overflows-requires : tie.Need-sum-overflows-requires
+sum-overflows-requires c κs = search needs
+
+carried-requires : tie.Need-carried-requires
+carried-requires c κs = search needs
+
+returns : tie.Need-returns
+unfolding sum
+returns c = let a = c .before .before .before .before .before .before .args in cc (reduced-twice (a .width) (a .a + a .b))
+
+pub sum-spec : {M : Type 1} → statement M
+sum-spec =
+    tie.close
+    (tie.spec
+    wrapping-add-u16-requires
+    reduced-requires
+    modulus-requires
+    add-carry
+    judged-requires
+    sum-overflows-requires
+    carried-requires
+    returns)

@@ -1,0 +1,33 @@
+-- `alu::sums::sum_overflows` meets its contract: the code is the definition, and the raised numbers are small.
+use mathlib.Core.Path.{_≡_}
+use native.Mathlib.Omega.{arith}
+use Rattle.alu.specs.Sums.{sum-overflows}
+use Rattle.alu.proofs.Laws.{modulus-bounds, raised-below}
+use borrow.Author.Needs.{needs}
+use Rattle.alu.proofs.sums.sum_overflows.Statement.{statement}
+use Rattle.alu.proofs.sums.sum_overflows.Tie as tie
+
+modulus-requires : tie.Need-modulus-requires
+modulus-requires c κs = search needs
+
+raised-requires : tie.Need-raised-requires
+raised-requires c κs = search needs
+
+raised-requires-2 : tie.Need-raised-requires-2
+raised-requires-2 c κs = search needs
+
+add-total : tie.Need-add-total
+add-total c = let w = c .before .before .before .args .width in
+    omega (arith, modulus-bounds w, raised-below w (c .before .before .before .args .a), raised-below w (c .before .before .before .args .b), c .before .raised .ensures, c .raised2 .ensures)
+
+add-result : tie.Need-add-result
+add-result c = omega (arith, modulus-bounds (c .before .before .before .args .width), c .before .before .modulus .ensures)
+
+returns : tie.Need-returns
+unfolding sum-overflows
+returns c = cc
+
+pub sum-overflows-spec : {M : Type 1} → statement M
+sum-overflows-spec =
+    tie.close
+    (tie.spec modulus-requires raised-requires raised-requires-2 add-total add-result returns)
