@@ -10,6 +10,7 @@ ghost use Rattle.machine.specs.Micro.{to-wp, to-pc, to-st, to-flags};
 ghost use Rattle.machine.specs.Perform.{perform, performed};
 use super::State;
 use memory::Width;
+use psi::CruBit;
 
 // A value that was read, and the state after the access.
 pub struct Loaded {
@@ -108,5 +109,37 @@ pub fn set_flags(state: State, value: u16) -> State
 {
     let mut s = state;
     s.flags = value % 4;
+    s
+}
+
+// A CRU bit that was read, and the state after the access.
+pub struct SensedBit {
+    pub value: bool,
+    pub state: State,
+}
+
+// Reads a CRU bit.
+pub fn sense(state: State, levels: u32, bit: CruBit) -> SensedBit
+    ensures { λ r. ⌜ ((m : List ℕ) → perform levels (Micro.sensed bit) (at state m) ≡ performed (r .value) (at (r .state) m)) ⌝ }
+{
+    let mut s = state;
+    let psi = s.psi;
+    let found = psi.sense(levels, bit);
+    let after = found.psi;
+    s.psi = after;
+    SensedBit {
+        value: found.value,
+        state: s,
+    }
+}
+
+// Writes a CRU bit.
+pub fn drive(state: State, bit: CruBit, value: bool) -> State
+    ensures { λ r. ⌜ ((v : ℕ) (m : List ℕ) → perform v (Micro.driven bit value) (at state m) ≡ performed tt (at r m)) ⌝ }
+{
+    let mut s = state;
+    let psi = s.psi;
+    let after = psi.drive(bit, value);
+    s.psi = after;
     s
 }

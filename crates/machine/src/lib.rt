@@ -40,6 +40,26 @@ impl State {
             psi,
         }
     }
+
+    // WP and PC even, flags at most 3, and the PSI's fields in order.
+    pub fn well_formed(self) -> bool
+        ensures { λ r. ⌜ r ≡ Own.well-formed self ⌝ }
+    {
+        let wp = self.wp;
+        let pc = self.pc;
+        let flags = self.flags;
+        let psi = self.psi;
+        if wp % 2 != 0 {
+            return false;
+        }
+        if pc % 2 != 0 {
+            return false;
+        }
+        if 3 < flags {
+            return false;
+        }
+        psi.well_formed()
+    }
 }
 
 // The run's answer: the number of document 01's table, the state, the steps done, and how many of them met an unassigned

@@ -1,0 +1,16 @@
+-- One access of a microprogram: the PSI is what writing the bit leaves.
+use Rattle.machine.specs.Micro as Micro
+use Rattle.machine.specs.Perform.{perform}
+use borrow.Author.Needs.{needs}
+use Rattle.machine.proofs.bus.drive.Statement.{statement}
+use Rattle.machine.proofs.bus.drive.Tie as tie
+
+drive-requires : tie.Need-drive-requires
+drive-requires c κs = search needs
+
+returns : tie.Need-returns
+unfolding perform Micro.driven
+returns c v m = rw (c .drive .ensures)
+
+pub drive-spec : {M : Type 1} → statement M
+drive-spec = tie.close (tie.spec drive-requires returns)

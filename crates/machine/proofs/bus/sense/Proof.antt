@@ -1,0 +1,16 @@
+-- One access of a microprogram: the value and the PSI are what reading the bit gives.
+use Rattle.machine.specs.Micro as Micro
+use Rattle.machine.specs.Perform.{perform}
+use borrow.Author.Needs.{needs}
+use Rattle.machine.proofs.bus.sense.Statement.{statement}
+use Rattle.machine.proofs.bus.sense.Tie as tie
+
+sense-requires : tie.Need-sense-requires
+sense-requires c κs = search needs
+
+returns : tie.Need-returns
+unfolding perform Micro.sensed
+returns c m = rw (c .before .sense .ensures)
+
+pub sense-spec : {M : Type 1} → statement M
+sense-spec = tie.close (tie.spec sense-requires returns)
