@@ -1,0 +1,83 @@
+-- Laws of every microprogram, each by one induction over its accesses: only a store changes memory, and only `assign` and
+-- a fetch change WP and PC.
+use Prim.Native.Nat.{ℕ, _+_, _*_, _/_, _%_}
+use mathlib.Core.Path.{_≡_, refl, sym, _∙_}
+use mathlib.Core.Bool.{Bool, true, false, _||_}
+use mathlib.Core.List.{List, [], _∷_, _++_}
+use native.Mathlib.Omega.{arith}
+use lib.ListN.{length, getD}
+use Rattle.memory.specs.declared.Width.the-variants.{Word}
+use Rattle.memory.specs.Memory.{loaded, Bytes, covers, touched}
+use Rattle.memory.proofs.Laws.{stored-length, stored-bytes, stored-frame, covers-append}
+use Rattle.psi.specs.Cru as Cru
+use Rattle.machine.specs.State as State
+use Rattle.machine.specs.State.{Machine}
+use Rattle.machine.specs.Micro.{Micro, done, look, assign, fetch, read, write, sense, drive, Target, to-wp, to-pc, to-st, to-flags}
+use Rattle.machine.specs.Perform.{perform, accesses, written, after-assign, after-fetch, after-write, after-sense, after-drive, assigned}
+use Rattle.machine.specs.Laws.{Keeps-the-rest, Keeps-the-length, Keeps-bytes, Even, Keeps-even}
+
+-- both parts of a false disjunction are false
+or-left : (a b : Bool) → (a || b) ≡ false → a ≡ false
+or-left true b e = e
+or-left false b e = refl
+
+or-right : (a b : Bool) → (a || b) ≡ false → b ≡ false
+or-right true true e = e
+or-right true false e = refl
+or-right false b e = e
+
+pub keeps-the-rest : {A : Type 0} → Keeps-the-rest A
+unfolding perform accesses written
+keeps-the-rest v (done a) m i e = refl
+keeps-the-rest v (look k) m i e = keeps-the-rest v (k (State.registers (m .state))) m i e
+keeps-the-rest v (assign t x k) m i e = keeps-the-rest v k (after-assign t x m) i e
+keeps-the-rest v (fetch k) m i e = keeps-the-rest v (k (loaded Word (m .memory) (m .state .pc))) (after-fetch m) i e
+keeps-the-rest v (read w a k) m i e = keeps-the-rest v (k (loaded w (m .memory) a)) m i e
+keeps-the-rest v (write w a x k) m i e =
+    let f = sym (covers-append i (touched w a) (written (accesses v k (after-write w a x m)))) ∙ e in
+    keeps-the-rest v k (after-write w a x m) i (or-right (covers i (touched w a)) _ f)
+    ∙ stored-frame w (m .memory) a x i (or-left (covers i (touched w a)) _ f)
+keeps-the-rest v (sense b k) m i e =
+    keeps-the-rest v (k (Cru.sensed (m .state .psi) v b .value)) (after-sense v b m) i e
+keeps-the-rest v (drive b x k) m i e = keeps-the-rest v k (after-drive b x m) i e
+
+pub keeps-the-length : {A : Type 0} → Keeps-the-length A
+unfolding perform
+keeps-the-length v (done a) m = refl
+keeps-the-length v (look k) m = keeps-the-length v (k (State.registers (m .state))) m
+keeps-the-length v (assign t x k) m = keeps-the-length v k (after-assign t x m)
+keeps-the-length v (fetch k) m = keeps-the-length v (k (loaded Word (m .memory) (m .state .pc))) (after-fetch m)
+keeps-the-length v (read w a k) m = keeps-the-length v (k (loaded w (m .memory) a)) m
+keeps-the-length v (write w a x k) m = keeps-the-length v k (after-write w a x m) ∙ stored-length w (m .memory) a x
+keeps-the-length v (sense b k) m = keeps-the-length v (k (Cru.sensed (m .state .psi) v b .value)) (after-sense v b m)
+keeps-the-length v (drive b x k) m = keeps-the-length v k (after-drive b x m)
+
+pub keeps-bytes : {A : Type 0} → Keeps-bytes A
+unfolding perform
+keeps-bytes v (done a) m h = h
+keeps-bytes v (look k) m h = keeps-bytes v (k (State.registers (m .state))) m h
+keeps-bytes v (assign t x k) m h = keeps-bytes v k (after-assign t x m) h
+keeps-bytes v (fetch k) m h = keeps-bytes v (k (loaded Word (m .memory) (m .state .pc))) (after-fetch m) h
+keeps-bytes v (read w a k) m h = keeps-bytes v (k (loaded w (m .memory) a)) m h
+keeps-bytes v (write w a x k) m h = keeps-bytes v k (after-write w a x m) (stored-bytes w (m .memory) a x h)
+keeps-bytes v (sense b k) m h = keeps-bytes v (k (Cru.sensed (m .state .psi) v b .value)) (after-sense v b m) h
+keeps-bytes v (drive b x k) m h = keeps-bytes v k (after-drive b x m) h
+
+even-assigned : (t : Target) (x : ℕ) (m : Machine) → Even (m .state) → Even (assigned t x (m .state))
+even-assigned to-wp x m h = record { wp = omega arith; pc = h .pc }
+even-assigned to-pc x m h = record { wp = h .wp; pc = omega arith }
+even-assigned to-st x m h = record { wp = h .wp; pc = h .pc }
+even-assigned to-flags x m h = record { wp = h .wp; pc = h .pc }
+
+pub keeps-even : {A : Type 0} → Keeps-even A
+unfolding perform
+keeps-even v (done a) m h = h
+keeps-even v (look k) m h = keeps-even v (k (State.registers (m .state))) m h
+keeps-even v (assign t x k) m h = keeps-even v k (after-assign t x m) (even-assigned t x m h)
+keeps-even v (fetch k) m h =
+    keeps-even v (k (loaded Word (m .memory) (m .state .pc))) (after-fetch m) (record { wp = h .wp; pc = omega arith })
+keeps-even v (read w a k) m h = keeps-even v (k (loaded w (m .memory) a)) m h
+keeps-even v (write w a x k) m h = keeps-even v k (after-write w a x m) (record { wp = h .wp; pc = h .pc })
+keeps-even v (sense b k) m h =
+    keeps-even v (k (Cru.sensed (m .state .psi) v b .value)) (after-sense v b m) (record { wp = h .wp; pc = h .pc })
+keeps-even v (drive b x k) m h = keeps-even v k (after-drive b x m) (record { wp = h .wp; pc = h .pc })
