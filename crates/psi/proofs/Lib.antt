@@ -1,1 +1,4 @@
+pub mod Cases
 pub mod Search
+pub mod ClockLaws
+pub mod RequestLaws
