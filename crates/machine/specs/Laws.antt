@@ -1,12 +1,13 @@
 -- What holds of every microprogram, so of every step.
-use Prim.Native.Nat.{ℕ, _%_}
+use Prim.Native.Nat.{ℕ, _%_, _<_}
 use mathlib.Core.Path.{_≡_}
 use mathlib.Core.Bool.{Bool, true, false}
 use mathlib.Core.List.{List}
 use lib.ListN.{length, getD}
 use Rattle.memory.specs.Memory.{Bytes, covers}
+use Rattle.psi.specs.Kept.{Fits16}
 use Rattle.machine.specs.declared.State.{State}
-use Rattle.machine.specs.State.{Machine}
+use Rattle.machine.specs.State.{Machine, well-formed}
 use Rattle.machine.specs.Micro.{Micro}
 use Rattle.machine.specs.Perform.{perform, accesses, written}
 
@@ -34,3 +35,20 @@ pub record Even (s : State) : Type 0 where
 -- WP and PC stay even.
 abbrev pub Keeps-even : Type 0 → Type 0
 Keeps-even A = (v : ℕ) (p : Micro A) (m : Machine) → Even (m .state) → Even (perform v p m .machine .state)
+
+-- every field is a number of 16 bits, as the code's types have it
+pub record Words (s : State) : Type 0 where
+  pub wp : s .wp < 65536
+  pub pc : s .pc < 65536
+  pub st : s .st < 65536
+  pub flags : s .flags < 65536
+  pub psi : Fits16 (s .psi)
+
+-- Fields stay numbers of 16 bits.
+abbrev pub Keeps-words : Type 0 → Type 0
+Keeps-words A = (v : ℕ) (p : Micro A) (m : Machine) → Words (m .state) → Words (perform v p m .machine .state)
+
+-- A well-formed state stays well formed.
+abbrev pub Keeps-well-formed : Type 0 → Type 0
+Keeps-well-formed A =
+    (v : ℕ) (p : Micro A) (m : Machine) → well-formed (m .state) ≡ true → well-formed (perform v p m .machine .state) ≡ true
