@@ -1,11 +1,11 @@
 -- Cases: a start, pin records, and what the run must leave. A case is a number computed from the definitions.
 use Prim.Native.Nat.{ℕ, _+_, _*_, _^_, _-_}
 use mathlib.Core.Bool.{Bool, true, false, _&&_}
-use mathlib.Core.List.{List, [], _∷_}
+use mathlib.Core.List.{List, [], _∷_, _++_}
 use lib.ListN.{length, replicate}
 use lib.Dec.{eqb}
 use Rattle.memory.specs.declared.Width.the-variants.{Word}
-use Rattle.memory.specs.Memory.{size, loaded, stored}
+use Rattle.memory.specs.Memory.{size, stored}
 use Rattle.psi.specs.declared.Psi.{Psi}
 use Rattle.psi.specs.Clock.{advanced}
 use Rattle.psi.specs.Pins.{code}
@@ -24,7 +24,8 @@ poked [] = replicate size 0
 poked (p ∷ ps) = stored Word (poked ps) (p .at) (p .word)
 
 pub data Case : Type 0 where
-  -- from a state and a memory of these words, the records one by one, no stop: the answer, and words that memory then has
+  -- from a state and a memory of these words, the records one by one, no stop: the answer, and the words put over that
+  -- memory; every other byte stays
   replayed : State → List Poke → List ℕ → RunAnswer → List Poke → Case
   -- the pending flag after so many cycles
   clocked : Psi → ℕ → ℕ → Case
@@ -53,9 +54,12 @@ same-answer a b =
     && (eqb (a .state .flags) (b .state .flags)
     && same-psi (a .state .psi) (b .state .psi)))))))
 
-unfoldable pub has : List ℕ → List Poke → Bool
-has m [] = true
-has m (p ∷ ps) = eqb (loaded Word m (p .at)) (p .word) && has m ps
+-- two memories byte by byte
+unfoldable pub same-bytes : List ℕ → List ℕ → Bool
+same-bytes [] [] = true
+same-bytes [] (y ∷ ys) = false
+same-bytes (x ∷ xs) [] = false
+same-bytes (x ∷ xs) (y ∷ ys) = elim (eqb x y) [ true ↦ same-bytes xs ys | false ↦ false ]
 
 -- no stop address: an odd one
 abbrev pub never : ℕ
@@ -65,13 +69,13 @@ unfoldable pub holds : Case → Bool
 holds (replayed s start records answer after) = judge (run (poked start) s records (length records) never)
   where
     judge : RunResult → Bool
-    judge r = same-answer (r .answer) answer && has (r .memory) after
+    judge r = same-answer (r .answer) answer && same-bytes (r .memory) (poked (after ++ start))
 holds (clocked p n pending) = eqb (advanced n p .pending) pending
 holds (coded p v c) = eqb (code p v) c
 
 unfoldable pub every : List Case → Bool
 every [] = true
-every (c ∷ cs) = holds c && every cs
+every (c ∷ cs) = elim (holds c) [ true ↦ every cs | false ↦ false ]
 
 -- all pins high, so many cycles
 abbrev pub quiet : ℕ → ℕ
