@@ -22,7 +22,7 @@ use Rattle.machine.specs.Step as Step
 use Rattle.machine.specs.Run as Run
 use Prim.Native.Nat.{ℕ, _+_, _*_, _^_, _-_}
 use mathlib.Core.Bool.{Bool, true, false, _&&_}
-use mathlib.Core.List.{List, [], _∷_, _++_}
+use mathlib.Core.List.{List, [], _∷_}
 use lib.ListN.{length, replicate}
 use lib.Dec.{eqb}
 use Rattle.memory.specs.declared.Width.the-variants.{Word}
@@ -39,15 +39,18 @@ pub record Poke : Type 0 where
   pub at : ℕ
   pub word : ℕ
 
--- the memory of zeros with these words in it
-unfoldable pub poked : List Poke → List ℕ
-poked [] = replicate size 0
-poked (p ∷ ps) = stored Word (poked ps) (p .at) (p .word)
+-- a memory with these words put into it, the last one first
+unfoldable pub poked : List Poke → List ℕ → List ℕ
+poked [] m = m
+poked (p ∷ ps) m = stored Word (poked ps m) (p .at) (p .word)
+
+abbrev pub zeros : List ℕ
+zeros = replicate size 0
 
 pub data Case : Type 0 where
-  -- from a state and a memory of these words, the records one by one, no stop: the answer, and the words put over that
-  -- memory; every other byte stays
-  replayed : State → List Poke → List ℕ → RunAnswer → List Poke → Case
+  -- from a state and a memory, the records one by one, no stop: the answer, and the words put into that memory; every other
+  -- byte stays
+  replayed : State → List ℕ → List ℕ → RunAnswer → List Poke → Case
   -- the pending flag after so many cycles
   clocked : Psi → ℕ → ℕ → Case
   -- the request code at these levels
@@ -87,10 +90,10 @@ abbrev pub never : ℕ
 never = 1
 
 unfoldable pub holds : Case → Bool
-holds (replayed s start records answer after) = judge (run (poked start) s records (length records) never)
+holds (replayed s start records answer after) = judge (run start s records (length records) never)
   where
     judge : RunResult → Bool
-    judge r = same-answer (r .answer) answer && same-bytes (r .memory) (poked (after ++ start))
+    judge r = same-answer (r .answer) answer && same-bytes (r .memory) (poked after start)
 holds (clocked p n pending) = eqb (advanced n p .pending) pending
 holds (coded p v c) = eqb (code p v) c
 
