@@ -1,6 +1,5 @@
 -- The code is the definition.
 use mathlib.Core.Path.{refl}
-use borrow.Author.Needs.{needs}
 use Rattle.psi.specs.Cru.{first-bit}
 use Rattle.psi.proofs.CruBase.bit.Statement.{statement}
 use Rattle.psi.proofs.CruBase.bit.Tie as tie
