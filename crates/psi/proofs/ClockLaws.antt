@@ -76,13 +76,25 @@ advanced-sum m n p =
     rw (ticks-with-phase p b a, count, rest, ticks-with-phase p d (a + c), ticks-sum p a c)
     (sym (ticks-with-phase (ticks a p) d c))
 
-pub cycle-by-cycle : CycleByCycle
+-- one cycle, by what the phase comes to
+one-cycle : (p : Psi) (n r : ℕ) → (p .phase + 1) / 64 ≡ n → (p .phase + 1) % 64 ≡ r → advanced 1 p ≡ ticks n (with-phase r p)
+unfolding advanced
+one-cycle p n r e f = rw (e, f)
+
+no-cycle : (p : Psi) → p .phase < 64 → advanced 0 p ≡ p
 unfolding advanced ticks
+no-cycle p h =
+    let e : (p .phase + 0) / 64 ≡ 0 = omega arith in
+    let f : (p .phase + 0) % 64 ≡ p .phase = omega arith in
+    rw (e, f)
+
+pub cycle-by-cycle : CycleByCycle
+unfolding ticks
 cycle-by-cycle =
     record {
-      none = λ p h. let q : (p .phase + 0) / 64 ≡ 0 = omega arith in let r : (p .phase + 0) % 64 ≡ p .phase = omega arith in rw (q, r);
-      within = λ p h. let q : (p .phase + 1) / 64 ≡ 0 = omega arith in let r : (p .phase + 1) % 64 ≡ p .phase + 1 = omega arith in rw (q, r);
-      round = λ p h. let q : (p .phase + 1) / 64 ≡ 1 = omega arith in let r : (p .phase + 1) % 64 ≡ 0 = omega arith in rw (q, r);
+      none = no-cycle;
+      within = λ p h. one-cycle p 0 (p .phase + 1) (omega arith) (omega arith);
+      round = λ p h. one-cycle p 1 0 (omega arith) (omega arith);
       more = λ n p. rw (← add-one n) (advanced-sum n 1 p);
       apart = advanced-sum;
     }

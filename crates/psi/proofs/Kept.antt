@@ -1,12 +1,12 @@
 -- Every change of the PSI is one of a few changes of single fields. What these keep, cycles and accesses keep; the case
 -- analysis is made once, for both properties.
-use Prim.Native.Nat.{ℕ, zero, suc, _+_, _-_, _*_, _/_, _%_, _^_, _<_, _≤_}
-use mathlib.Core.Path.{_≡_, refl, sym, ap, subst, _∙_}
+use Prim.Native.Nat.{ℕ, zero, suc, _+_, _-_, _/_, _%_, _<_, _≤_}
+use mathlib.Core.Path.{_≡_, refl, sym, _∙_}
 use mathlib.Core.Bool.{Bool, true, false, _&&_, _||_}
 use native.Mathlib.Omega.{arith}
-use lib.Dec.{eqb, ltb, leb}
-use borrow.Author.Tests.{eqb-true, eqb-false, ltb-true, ltb-false, leb-true, le-leb, lt-ltb, eq-eqb}
-use Rattle.bits.specs.Bits.{if_then_else_, bit, put}
+use lib.Dec.{eqb, ltb}
+use borrow.Author.Tests.{eqb-true, eqb-false, ltb-true, leb-true, le-leb, lt-ltb, eq-eqb}
+use Rattle.bits.specs.Bits.{bit, put}
 use Rattle.bits.specs.Logic.{joined, without}
 use Rattle.psi.specs.declared.Psi.{Psi}
 use Rattle.psi.specs.declared.CruBit.{CruBit}
@@ -101,7 +101,10 @@ pended-below b p one h =
 
 -- the fields fit
 fits-counted : (p : Psi) → Fits16 p → Fits16 (with-count (counted p) (pended p) p)
-fits-counted p h = omega (arith, counted-below 65535 p (omega arith) (omega arith) (omega arith), pended-below 65535 p (omega arith) (omega arith))
+fits-counted p h =
+    let count : counted p ≤ 65535 = counted-below 65535 p (omega arith) (omega arith) (omega arith) in
+    let flag : pended p ≤ 65535 = pended-below 65535 p (omega arith) (omega arith) in
+    omega arith
 
 fits-refreshed : (p : Psi) → Fits16 p → Fits16 (refreshed p)
 fits-refreshed p h = omega arith
@@ -178,7 +181,14 @@ form p w =
 formed : (p : Psi) → Form p → well-formed p ≡ true
 unfolding well-formed
 formed p f =
-    rw (le-leb _ _ (f .numbers .load), le-leb _ _ (f .numbers .decrementer), le-leb _ _ (f .numbers .reading), lt-ltb _ _ (f .numbers .phase), le-leb _ _ (f .numbers .pending), eq-eqb _ _ (f .numbers .latches))
+    rw (
+      le-leb _ _ (f .numbers .load),
+      le-leb _ _ (f .numbers .decrementer),
+      le-leb _ _ (f .numbers .reading),
+      lt-ltb _ _ (f .numbers .phase),
+      le-leb _ _ (f .numbers .pending),
+      eq-eqb _ _ (f .numbers .latches),
+    )
     (either-holds (control p) _ (λ c. eq-eqb _ _ (f .follows c)))
 
 form-counted : (p : Psi) → Form p → Numbers (with-count (counted p) (pended p) p)
@@ -217,7 +227,11 @@ form-changes =
       clear = λ {p} f. record { numbers = omega arith; follows = f .follows };
       load = λ n x l {p} c f. record { numbers = omega (arith, put-below 14 n x (p .load) l (omega arith)); follows = λ z. cc };
       inputs = λ {p} f. record { numbers = omega (arith, no-latches); follows = f .follows };
-      port = λ k x l {p} f. record { numbers = omega (arith, without-put k x (p .latch) (p .direction) (f .numbers .latches)); follows = f .follows };
+      port = λ k x l {p} f.
+          record {
+            numbers = omega (arith, without-put k x (p .latch) (p .direction) (f .numbers .latches));
+            follows = f .follows;
+          };
     }
 
 pub kept-formed : KeptFormed

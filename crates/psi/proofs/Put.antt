@@ -1,10 +1,10 @@
 -- A bit that is put: at 0 it is the lowest digit; further up, the lowest digit stays and the bit is put one place lower into
 -- the half. Every law here goes by that recursion.
-use Prim.Native.Nat.{ℕ, zero, suc, _+_, _*_, _/_, _%_, _^_, _<_, _≤_}
+use Prim.Native.Nat.{ℕ, zero, suc, _+_, _*_, _/_, _%_, _^_, _<_}
 use mathlib.Core.Path.{_≡_, refl, sym, ap, _∙_}
 use mathlib.Core.Bool.{Bool, true, false, not, _&&_, and-false}
 use native.Mathlib.Omega.{arith}
-use native.Mathlib.Nat.{div-one, mod-one, one-mul, mul-one}
+use native.Mathlib.Nat.{div-one, mod-one}
 use native.Mathlib.Numerals.{one-add, add-one}
 use lib.Dec.{eqb}
 use lib.Pow.{shr-shr, mod-pow-add}
@@ -63,7 +63,14 @@ none-put (suc j) (suc k) x a b e =
     let halfa : put (suc k) x a / 2 ≡ put k x (a / 2) = omega (arith, put-above k x a) in
     let halfb : put (suc k) true b / 2 ≡ put k true (b / 2) = omega (arith, put-above k true b) in
     let rest : joined (λ p q. p && not q) j (a / 2) (b / 2) ≡ 0 = omega arith in
-    rw (halfa, halfb, none-put j k x (a / 2) (b / 2) rest, lowest-kept (suc k) x a (omega arith), lowest-kept (suc k) true b (omega arith)) (omega arith)
+    rw (
+      halfa,
+      halfb,
+      none-put j k x (a / 2) (b / 2) rest,
+      lowest-kept (suc k) x a (omega arith),
+      lowest-kept (suc k) true b (omega arith),
+    )
+    (omega arith)
 
 pub without-put : (k : ℕ) (x : Bool) (a b : ℕ) → without a b ≡ 0 → without (put k x a) (put k true b) ≡ 0
 unfolding without

@@ -1,13 +1,13 @@
 -- The search either stops at its first request or goes on with one fewer, from the next; what it says of the rest, with what
 -- is known of the first, says it of all.
 use Prim.Native.Nat.{ℕ, zero, suc, _+_, _<_, _≤_}
-use mathlib.Core.Path.{_≡_, refl, sym, subst}
+use mathlib.Core.Path.{_≡_, refl, subst}
 use mathlib.Core.Bool.{Bool, true, false}
 use native.Mathlib.Omega.{arith}
 use native.Mathlib.Decide.{decLt}
 use Rattle.psi.specs.declared.Psi.{Psi}
 use Rattle.psi.specs.Pins.{requested, lowest, request}
-use Rattle.psi.specs.RequestLaws.{Meant, RequestMeaning}
+use Rattle.psi.specs.RequestLaws.{RequestMeaning}
 
 module _ (s : Psi) (v : ℕ) where
   -- what r says of the k requests from n on
@@ -39,7 +39,9 @@ module _ (s : Psi) (v : ℕ) where
         found = λ h. (omega arith, e, λ m lo hi. absurd (omega arith));
       }
 
-  turned : (b : Bool) (k n : ℕ) → 0 < n → requested s v n ≡ b → Of k (n + 1) (lowest s v k (n + 1)) → Of (suc k) n (lowest s v (suc k) n)
+  turned :
+      (b : Bool) (k n : ℕ) → 0 < n → requested s v n ≡ b → Of k (n + 1) (lowest s v k (n + 1)) →
+      Of (suc k) n (lowest s v (suc k) n)
   unfolding lowest
   turned true k n pos e o = rw e (here k n pos e)
   turned false k n pos e o = rw e (beyond k n _ e o)

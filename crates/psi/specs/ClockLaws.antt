@@ -1,5 +1,5 @@
 -- What the clock's definitions come to: the clock cycle by cycle, and its period.
-use Prim.Native.Nat.{ℕ, suc, _+_, _-_, _≤_, _<_}
+use Prim.Native.Nat.{ℕ, suc, _+_, _-_, _<_}
 use mathlib.Core.Path.{_≡_}
 use Rattle.psi.specs.declared.Psi.{Psi}
 use Rattle.psi.specs.Psi.{tick-cycles, with-phase}
