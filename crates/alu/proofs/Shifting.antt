@@ -2,15 +2,15 @@
 -- at one of k shifts to the left exactly if twice the number is at least 2^(16-k) and below 2^17 - 2^(16-k): one shift doubles the
 -- number and halves the room, and the first change is where the upper two bits differ.
 use Prim.Native.Nat.{ℕ, zero, suc, _+_, _-_, _*_, _/_, _%_, _^_, _<_, _≤_}
-use mathlib.Core.Path.{_≡_, refl, sym, ap, subst, _∙_}
-use mathlib.Core.Bool.{Bool, true, false, not, _&&_, _||_}
+use mathlib.Core.Path.{_≡_, refl, sym, ap, _∙_}
+use mathlib.Core.Bool.{Bool, true, not, _&&_, _||_}
 use native.Mathlib.Omega.{arith}
 use native.Mathlib.Nat.{mod-lt, pow-suc}
 use lib.Dec.{leb, ltb, eqb}
 use lib.Pow.{pow-add, pow-pos, pow-mono, shr-lt}
 use lib.Arith.{digits-lt}
-use borrow.Author.Tests.{le-leb, lt-leb, lt-ltb, le-ltb, eq-eqb, ne-eqb}
-use Rattle.bits.specs.Bits.{if_then_else_, bit}
+use borrow.Author.Tests.{le-leb, lt-leb, lt-ltb, le-ltb, ne-eqb}
+use Rattle.bits.specs.Bits.{if_then_else_}
 use Rattle.alu.specs.Shifts.{amount, sign-changes}
 use Rattle.alu.proofs.Laws.{either-side, sign-bit}
 

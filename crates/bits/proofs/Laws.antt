@@ -1,7 +1,7 @@
 -- A 16-bit word with one bit replaced is a 16-bit word: above the bit there are 16 - n digits, and making the lowest of
 -- them 0 or 1 leaves them that many. The bit put reads back and every other bit is kept: a bit above sees only the digits
 -- above, and a bit below does not see what is added from n on.
-use Prim.Native.Nat.{ℕ, zero, suc, _+_, _-_, _*_, _/_, _%_, _^_, _<_, _≤_}
+use Prim.Native.Nat.{ℕ, suc, _+_, _-_, _*_, _/_, _%_, _^_, _<_, _≤_}
 use mathlib.Core.Path.{_≡_, refl, sym, ap, subst, _∙_}
 use mathlib.Core.Bool.{Bool, true, false}
 use native.Mathlib.Omega.{arith}

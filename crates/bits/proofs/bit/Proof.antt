@@ -1,6 +1,4 @@
 -- `bits::bit` meets its contract: below 32 the code is the definition; from 32 on, no power fits under a 32-bit number.
-use Prim.Native.Nat.{_<_, _≤_, _^_, _/_, _%_}
-use mathlib.Core.Path.{_≡_}
 use native.Mathlib.Nat.{div-eq-of-lt, lt-of-lt-of-le}
 use lib.Pow.{pow-mono}
 use borrow.Author.Needs.{needs}

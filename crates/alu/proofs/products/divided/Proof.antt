@@ -1,7 +1,6 @@
 -- `alu::products::divided` meets its contract: where the divisor exceeds the high word, the quotient is below 65536 and the remainder
 -- below the divisor.
 use Prim.Native.Nat.{_*_, _+_, _<_}
-use mathlib.Core.Path.{_≡_, refl}
 use native.Mathlib.Omega.{arith}
 use borrow.Author.Tests.{le-leb, lt-leb}
 use native.Mathlib.Nat.{mod-lt}

@@ -1,5 +1,4 @@
 -- `alu::shifts::shift_carry` meets its contract: each arm reads the bit that the definition names.
-use mathlib.Core.Path.{_≡_}
 use Rattle.alu.specs.Shifts.{shift-carry}
 use borrow.Author.Needs.{needs}
 use Rattle.alu.proofs.shifts.shift_carry.Statement.{statement}

@@ -1,5 +1,4 @@
 -- `alu::shifts::shift_overflow` meets its contract: SLA puts OV, the others leave the status.
-use mathlib.Core.Path.{_≡_}
 use Rattle.alu.specs.Shifts.{shift-overflow}
 use borrow.Author.Needs.{needs}
 use Rattle.alu.proofs.shifts.shift_overflow.Statement.{statement}

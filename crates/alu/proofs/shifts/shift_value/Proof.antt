@@ -1,8 +1,6 @@
 -- `alu::shifts::shift_value` meets its contract: what is shifted down and what is put above it share no bit, so their sum fits a word.
-use Prim.Native.Nat.{_+_, _-_, _*_, _/_, _%_, _^_, _<_}
-use mathlib.Core.Path.{_≡_}
 use native.Mathlib.Omega.{arith}
-use lib.Bits.{bitAnd, and-mask}
+use lib.Bits.{and-mask}
 use lib.Pow.{pow-pos}
 use Rattle.alu.specs.Shifts.{shift-value}
 use Rattle.alu.proofs.Shifting.{above-below, high-below, rotated-below}

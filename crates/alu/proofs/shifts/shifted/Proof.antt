@@ -1,5 +1,4 @@
 -- `alu::shifts::shifted` meets its contract: an amount is 1 to 16, and the parts are put together as the definition does.
-use mathlib.Core.Path.{_≡_}
 use native.Mathlib.Omega.{arith}
 use Rattle.alu.specs.Shifts.{shifted}
 use Rattle.alu.proofs.Shifting.{amount-bounds}

@@ -1,7 +1,5 @@
 -- `alu::shifts::sign_changes` meets its contract: the code tests whether the doubled number lies outside the room that is left.
-use mathlib.Core.Path.{_≡_, sym}
 use native.Mathlib.Omega.{arith}
-use Rattle.alu.specs.Shifts.{sign-changes}
 use Rattle.alu.proofs.Shifting.{above-below, changes-is}
 use borrow.Author.Needs.{needs}
 use Rattle.alu.proofs.shifts.sign_changes.Statement.{statement}

@@ -1,6 +1,5 @@
 -- `alu::shifts::weight` meets its contract: a weight up to 2^16 is not cut at 32 bits.
 use Prim.Native.Nat.{_^_, _<_, _≤_}
-use mathlib.Core.Path.{_≡_}
 use native.Mathlib.Nat.{one-mul, mod-eq-of-lt}
 use native.Mathlib.Omega.{arith}
 use lib.Pow.{pow-mono}
