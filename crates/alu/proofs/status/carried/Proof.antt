@@ -1,5 +1,4 @@
 -- `alu::status::carried` meets its contract: the two bits are put as the definition puts them.
-use mathlib.Core.Path.{_≡_}
 use Rattle.alu.specs.Status.{carried}
 use borrow.Author.Needs.{needs}
 use Rattle.alu.proofs.status.carried.Statement.{statement}

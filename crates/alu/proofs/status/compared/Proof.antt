@@ -1,5 +1,4 @@
 -- `alu::status::compared` meets its contract: the three bits are put as the definition puts them, and `raised` is its own.
-use mathlib.Core.Path.{_≡_}
 use Rattle.alu.specs.Status.{compared}
 use borrow.Author.Needs.{needs}
 use Rattle.alu.proofs.status.compared.Statement.{statement}

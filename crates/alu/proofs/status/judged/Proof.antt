@@ -1,5 +1,4 @@
 -- `alu::status::judged` meets its contract: the comparison with 0, then the parity.
-use mathlib.Core.Path.{_≡_}
 use Rattle.alu.specs.Status.{judged}
 use borrow.Author.Needs.{needs}
 use Rattle.alu.proofs.status.judged.Statement.{statement}

@@ -1,5 +1,4 @@
 -- `alu::status::jumps` meets its contract: each arm reads the bits that the definition reads.
-use mathlib.Core.Path.{_≡_}
 use Rattle.alu.specs.Status.{jumps}
 use borrow.Author.Needs.{needs}
 use Rattle.alu.proofs.status.jumps.Statement.{statement}

@@ -1,7 +1,6 @@
 -- `alu::sums::difference` meets its contract: the wrapped difference reduced to the width is the definition's, and carry and overflow
 -- are those of the definition.
 use Prim.Native.Nat.{_+_, _-_}
-use mathlib.Core.Path.{_≡_}
 use native.Mathlib.Omega.{arith}
 use Rattle.alu.specs.Sums.{difference}
 use Rattle.alu.proofs.Laws.{reduced-twice, wrapped-difference}

@@ -1,5 +1,4 @@
 -- `alu::sums::difference_overflows` meets its contract: the code is the definition, and the raised numbers are small.
-use mathlib.Core.Path.{_≡_}
 use native.Mathlib.Omega.{arith}
 use Rattle.alu.specs.Sums.{difference-overflows}
 use Rattle.alu.proofs.Laws.{modulus-bounds, raised-below}

@@ -1,7 +1,6 @@
 -- `alu::sums::sum` meets its contract: the wrapped sum reduced to the width is the sum reduced to it, and carry and overflow are
 -- those of the definition.
 use Prim.Native.Nat.{_+_}
-use mathlib.Core.Path.{_≡_}
 use Rattle.alu.specs.Sums.{sum}
 use Rattle.alu.proofs.Laws.{reduced-twice}
 use borrow.Author.Needs.{needs}
