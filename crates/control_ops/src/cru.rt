@@ -75,11 +75,7 @@ fn sense_bits(state: State, levels: u32, count: u16, bit: CruBit) -> Loaded
 fn transfer_width(count: u16) -> Width
     ensures { λ r. ⌜ r ≡ Groups.transfer-width count ⌝ }
 {
-    if count <= 8 {
-        Width::Byte
-    } else {
-        Width::Word
-    }
+    if count <= 8 { Width::Byte } else { Width::Word }
 }
 
 // LDCR: the whole operand is judged, and its lowest bits go out.
