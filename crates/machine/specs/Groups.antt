@@ -141,14 +141,15 @@ unfoldable pub transfer : TransferOp → Operand → ℕ → Micro (Unit {0})
 transfer Ldcr o n = load-cru (amount n) o
 transfer Stcr o n = store-cru (amount n) o
 
+-- what SBO, SBZ and TB do with their bit
+unfoldable pub reach : BitOp → CruBit → Micro (Unit {0})
+reach Sbo b = driven b true
+reach Sbz b = driven b false
+reach Tb b = sensed b >>= set-equal
+
 -- SBO, SBZ and TB reach a bit by a signed displacement.
 unfoldable pub access-bit : BitOp → ℕ → Micro (Unit {0})
 access-bit op d = cru-base >>= λ b. reach op (beyond b (displacement d))
-  where
-    reach : BitOp → CruBit → Micro (Unit {0})
-    reach Sbo b = driven b true
-    reach Sbz b = driven b false
-    reach Tb b = sensed b >>= set-equal
 
 -- a signed displacement of words, as the number of bytes further that it means where addresses wrap
 unfoldable pub jump-bytes : ℕ → ℕ
