@@ -159,12 +159,19 @@ jump op d = registers >>= λ r.
     if jumps op (r .st) then set to-pc ((r .pc + jump-bytes d) % 65536) else done tt
 
 -- Shift count 0 means R0 modulo 16, and 0 there means 16.
+unfoldable pub shift-count : ℕ → Micro ℕ
+shift-count c = if eqb c 0 then register 0 else done c
+
 unfoldable pub shift : ShiftOp → ℕ → ℕ → Micro (Unit {0})
 shift op n c = do
   x ← register n
-  k ← (if eqb c 0 then register 0 else done c)
+  k ← shift-count c
   r ← registers
   conclude Word (register-at (r .wp) n) (shifted op x k)
+
+-- ABS stores only where the operand is negative.
+unfoldable pub replace : ℕ → ℕ → Micro (Unit {0})
+replace a x = if bit 15 x then store Word a (absolute x 0 .value) else done tt
 
 -- what a single-operand instruction does at its operand's address
 unfoldable pub modify : SingleOp → ℕ → Micro (Unit {0})
@@ -179,11 +186,7 @@ modify Dect a = load Word a >>= λ x. conclude Word a (difference Word x 2)
 modify Bl a = registers >>= λ r. (set to-pc a >> set-register 11 (r .pc))
 modify Swpb a = load Word a >>= λ x. store Word a (swapped x)
 modify Seto a = store Word a 65535
-modify Abs a = load Word a >>= λ x. (set-status (λ st. absolute x st .st) >> replace x)
-  where
-    -- only a negative operand is replaced
-    replace : ℕ → Micro (Unit {0})
-    replace x = if bit 15 x then store Word a (absolute x 0 .value) else done tt
+modify Abs a = load Word a >>= λ x. (set-status (λ st. absolute x st .st) >> replace a x)
 
 unfoldable pub single : SingleOp → Operand → Micro (Unit {0})
 single op o = operand Word o >>= modify op
@@ -197,19 +200,19 @@ merge Ori a d x = conclude-judged Word a (either d x)
 merge Ci a d x = set-status (compared Word d x)
 
 -- LI does not read its register.
+unfoldable pub old : ImmediateOp → ℕ → Micro ℕ
+old Li n = done 0
+old Ai n = register n
+old Andi n = register n
+old Ori n = register n
+old Ci n = register n
+
 unfoldable pub immediate : ImmediateOp → ℕ → Micro (Unit {0})
 immediate op n = do
-  d ← old op
+  d ← old op n
   x ← fetched
   r ← registers
   merge op (register-at (r .wp) n) d x
-  where
-    old : ImmediateOp → Micro ℕ
-    old Li = done 0
-    old Ai = register n
-    old Andi = register n
-    old Ori = register n
-    old Ci = register n
 
 -- ST with another interrupt mask
 abbrev pub masked : ℕ → ℕ → ℕ
