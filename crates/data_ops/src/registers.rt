@@ -59,7 +59,16 @@ fn exclusive_or(bytes: &mut [u8], state: State, n: u16, x: u16) -> State
     results::conclude_judged(bytes, s, Width::Word, bus::register_at(wp, n), value)
 }
 
-// MPY: the product goes to the register's pair, the high word first.
+// Stores a pair: the register and the word after it.
+fn set_pair(bytes: &mut [u8], state: State, n: u16, pair: Pair) -> State
+    requires { ⌜ Installed (now bytes) ⌝ }
+    ensures { λ r. ⌜ ((v : ℕ) → perform v (Groups.set-pair n pair) (at state (now (bytes .entry))) ≡ performed tt (at r (now (bytes .exit)))) ⌝ }
+{
+    let s = bus::set_register(bytes, state, n, pair.high);
+    bus::set_register(bytes, s, num::wrapping_add_u16(n, 1), pair.low)
+}
+
+// MPY: the product goes to the register's pair.
 fn multiply(bytes: &mut [u8], state: State, n: u16, x: u16) -> State
     requires { ⌜ Installed (now bytes) ⌝ }
     ensures { λ r. ⌜ ((v : ℕ) → perform v (Groups.apply Op.Mpy n x) (at state (now (bytes .entry))) ≡ performed tt (at r (now (bytes .exit)))) ⌝ }
@@ -67,8 +76,7 @@ fn multiply(bytes: &mut [u8], state: State, n: u16, x: u16) -> State
     let old = bus::register(bytes, state, n);
     let s = old.state;
     let product = products::product(old.value, x);
-    let s = bus::set_register(bytes, s, n, product.high);
-    bus::set_register(bytes, s, num::wrapping_add_u16(n, 1), product.low)
+    set_pair(bytes, s, n, product)
 }
 
 // DIV: OV alone where the divisor is at most the high word; else OV is cleared, and quotient and remainder go to the pair.
@@ -83,8 +91,7 @@ fn divide(bytes: &mut [u8], state: State, n: u16, x: u16) -> State
         let st = s.st;
         return results::set_status(s, bits::put(st, 11, true));
     }
-    let next = num::wrapping_add_u16(n, 1);
-    let low = bus::register(bytes, s, next);
+    let low = bus::register(bytes, s, num::wrapping_add_u16(n, 1));
     let s = low.state;
     let st = s.st;
     let s = results::set_status(s, bits::put(st, 11, false));
@@ -92,9 +99,7 @@ fn divide(bytes: &mut [u8], state: State, n: u16, x: u16) -> State
         high: top,
         low: low.value,
     };
-    let divided = products::divided(x, pair);
-    let s = bus::set_register(bytes, s, n, divided.high);
-    bus::set_register(bytes, s, next, divided.low)
+    set_pair(bytes, s, n, products::divided(x, pair))
 }
 
 // What the operation does with the register's number and the source's value.

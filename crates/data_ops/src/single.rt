@@ -14,6 +14,7 @@ use machine::State;
 use machine::bus;
 use memory::Width;
 use operand::results;
+use std::num;
 
 // NEG: 0 less the operand.
 fn negate(bytes: &mut [u8], state: State, to: u16) -> State
@@ -65,8 +66,7 @@ fn replace(bytes: &mut [u8], state: State, to: u16, x: u16) -> State
     ensures { λ r. ⌜ ((v : ℕ) → perform v (Groups.replace to x) (at state (now (bytes .entry))) ≡ performed tt (at r (now (bytes .exit)))) ⌝ }
 {
     if bits::bit(x as u32, 15) {
-        let positive = sums::absolute(x, 0);
-        return bus::store(bytes, state, Width::Word, to, positive.value);
+        return bus::store(bytes, state, Width::Word, to, num::wrapping_sub_u16(0, x));
     }
     state
 }

@@ -68,6 +68,10 @@ dual op w s d = do
 unfoldable pub set-equal : Bool → Micro (Unit {0})
 set-equal b = set-status (put equal b)
 
+-- A pair is the register and the word after it.
+unfoldable pub set-pair : ℕ → Pair → Micro (Unit {0})
+set-pair n p = set-register n (p .high) >> set-register (n + 1) (p .low)
+
 -- DIV: OV exactly if the divisor is at most the high word, and then nothing else changes.
 unfoldable pub divide : ℕ → ℕ → Micro (Unit {0})
 divide n x = do
@@ -76,10 +80,9 @@ divide n x = do
       else (do
         low ← register (n + 1)
         set-status (put overflow false)
-        set-register n (divided x (record { high = high; low = low }) .high)
-        set-register (n + 1) (divided x (record { high = high; low = low }) .low)))
+        set-pair n (divided x (record { high = high; low = low }))))
 
--- what an instruction with a register as destination does with the source's value; a pair is the register and the word after it
+-- what an instruction with a register as destination does with the source's value
 unfoldable pub apply : RegisterOp → ℕ → ℕ → Micro (Unit {0})
 apply Coc n x = register n >>= λ d. set-equal (eqb (without x d) 0)
 apply Czc n x = register n >>= λ d. set-equal (eqb (both x d) 0)
@@ -87,10 +90,7 @@ apply Xor n x = do
   d ← register n
   r ← registers
   conclude-judged Word (register-at (r .wp) n) (exclusive d x)
-apply Mpy n x = do
-  d ← register n
-  set-register n (product d x .high)
-  set-register (n + 1) (product d x .low)
+apply Mpy n x = register n >>= λ d. set-pair n (product d x)
 apply Div n x = divide n x
 
 unfoldable pub with-register : RegisterOp → Operand → ℕ → Micro (Unit {0})

@@ -75,7 +75,6 @@ same-length-6 : tie.Need-same-length-6
 same-length-6 c = search needs
 
 returns-6 : tie.Need-returns-6
-unfolding combine
 returns-6 c v = rw (c .before .before .before .before .enum-told6 .given .1) (c .before .before .set-ones .ensures v)
 
 pub combine-spec : {M : Type 1} → statement M

@@ -1,65 +1,56 @@
+-- Nothing is read for LI; the other forms load the register.
+use Rattle.machine.proofs.Bind.{perform-done}
+use Rattle.machine.specs.Groups.{old}
 use borrow.Author.Needs.{needs}
 use Rattle.data_ops.proofs.immediate.old.Statement.{statement}
 use Rattle.data_ops.proofs.immediate.old.Tie as tie
-use Rattle.data_ops.proofs.immediate.old.Reads as reads
-use Rattle.data_ops.proofs.immediate.old.Lts as lts
-use Rattle.machine.proofs.bus.register.Reads as register-reads
 
--- src/immediate.rt:23:28
 enum-told : tie.Need-enum-told
 enum-told c = search needs
 
--- src/immediate.rt:24:28
 enum-told-2 : tie.Need-enum-told-2
 enum-told-2 c = search needs
 
--- src/immediate.rt:24:28
 register-requires : tie.Need-register-requires
 register-requires c κs = search needs
 
--- src/immediate.rt:25:30
 enum-told-3 : tie.Need-enum-told-3
 enum-told-3 c = search needs
 
--- src/immediate.rt:25:30
 register-requires-2 : tie.Need-register-requires-2
 register-requires-2 c κs = search needs
 
--- src/immediate.rt:26:29
 enum-told-4 : tie.Need-enum-told-4
 enum-told-4 c = search needs
 
--- src/immediate.rt:26:29
 register-requires-3 : tie.Need-register-requires-3
 register-requires-3 c κs = search needs
 
--- src/immediate.rt:27:28
 enum-told-5 : tie.Need-enum-told-5
 enum-told-5 c = search needs
 
--- src/immediate.rt:27:28
 register-requires-4 : tie.Need-register-requires-4
 register-requires-4 c κs = search needs
 
--- src/immediate.rt:18:1
 returns : tie.Need-returns
-returns c = ?
+unfolding old
+returns c v = rw (c .enum-told .given .1) (perform-done v _ _)
 
--- src/immediate.rt:18:1
 returns-2 : tie.Need-returns-2
-returns-2 c = ?
+unfolding old
+returns-2 c v = rw (c .before .enum-told2 .given .1) (c .register .ensures v)
 
--- src/immediate.rt:18:1
 returns-3 : tie.Need-returns-3
-returns-3 c = ?
+unfolding old
+returns-3 c v = rw (c .before .enum-told3 .given .1) (c .register2 .ensures v)
 
--- src/immediate.rt:18:1
 returns-4 : tie.Need-returns-4
-returns-4 c = ?
+unfolding old
+returns-4 c v = rw (c .before .enum-told4 .given .1) (c .register3 .ensures v)
 
--- src/immediate.rt:18:1
 returns-5 : tie.Need-returns-5
-returns-5 c = ?
+unfolding old
+returns-5 c v = rw (c .before .enum-told5 .given .1) (c .register4 .ensures v)
 
 pub old-spec : {M : Type 1} → statement M
 old-spec =

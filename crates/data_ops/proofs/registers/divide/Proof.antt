@@ -1,70 +1,54 @@
+-- The high word is loaded and the test is the definition's. Where the quotient fits, the low word follows, OV is cleared, and the
+-- quotient and the remainder are stored in the pair.
+use mathlib.Core.Path.{sym}
+use borrow.Author.Tests.{le-leb, lt-leb}
+use Rattle.machine.proofs.Bind.{perform-bind}
+use Rattle.machine.specs.Groups.{divide}
+use Rattle.data_ops.proofs.Wraps.{register-wraps}
 use borrow.Author.Needs.{needs}
 use Rattle.data_ops.proofs.registers.divide.Statement.{statement}
 use Rattle.data_ops.proofs.registers.divide.Tie as tie
-use Rattle.data_ops.proofs.registers.divide.Reads as reads
-use Rattle.data_ops.proofs.registers.divide.Lts as lts
-use Rattle.alu.proofs.products.divided.Reads as divided-reads
-use Rattle.bits.proofs.put.Reads as put-reads
-use Rattle.machine.proofs.bus.register.Reads as register-reads
-use Rattle.machine.proofs.bus.set_register.Reads as set-register-reads
-use Rattle.operand.proofs.results.set_status.Reads as set-status-reads
-use Rattle.std.proofs.num.wrapping_add_u16.Reads as wrapping-add-u16-reads
 
--- src/registers.rt:79:9
 register-requires : tie.Need-register-requires
 register-requires c κs = search needs
 
--- src/registers.rt:84:39
 put-requires : tie.Need-put-requires
 put-requires c κs = search needs
 
--- src/registers.rt:84:9
 set-status-requires : tie.Need-set-status-requires
 set-status-requires c κs = search needs
 
--- src/registers.rt:84:9
 same-length : tie.Need-same-length
 same-length c = search needs
 
--- src/registers.rt:84:9
 returns : tie.Need-returns
-returns c = ?
+unfolding divide
+returns c v = rw (perform-bind, c .before .before .before .before .register .ensures v, le-leb _ _ (c .before .before .if1 .taken)) (c .set-status .ensures v _ _ (sym (c .before .put .ensures)))
 
--- src/registers.rt:86:9
 wrapping-add-u16-requires : tie.Need-wrapping-add-u16-requires
 wrapping-add-u16-requires c κs = search needs
 
--- src/registers.rt:87:9
 register-requires-2 : tie.Need-register-requires-2
 register-requires-2 c κs = search needs
 
--- src/registers.rt:90:36
 put-requires-2 : tie.Need-put-requires-2
 put-requires-2 c κs = search needs
 
--- src/registers.rt:90:9
 set-status-requires-2 : tie.Need-set-status-requires-2
 set-status-requires-2 c κs = search needs
 
--- src/registers.rt:95:9
 divided-requires : tie.Need-divided-requires
 divided-requires c κs = search needs
 
--- src/registers.rt:96:9
-set-register-requires : tie.Need-set-register-requires
-set-register-requires c κs = search needs
+set-pair-requires : tie.Need-set-pair-requires
+set-pair-requires c κs = search needs
 
--- src/registers.rt:97:5
-set-register-requires-2 : tie.Need-set-register-requires-2
-set-register-requires-2 c κs = ?
-
--- src/registers.rt:75:1
 same-length-2 : tie.Need-same-length-2
 same-length-2 c = search needs
 
--- src/registers.rt:75:1
 returns-2 : tie.Need-returns-2
-returns-2 c = ?
+unfolding divide
+returns-2 c v = rw (perform-bind, c .before .before .before .before .before .before .before .before .before .before .before .before .before .register .ensures v, lt-leb _ _ (c .before .before .before .before .before .before .before .before .before .before .before .if1 .left), ← register-wraps, ← c .before .before .before .before .before .before .before .before .before .wrapping-add-u16 .ensures, perform-bind, c .before .before .before .before .before .before .before .before .register2 .ensures v, perform-bind, c .before .before .before .before .before .set-status2 .ensures v _ _ (sym (c .before .before .before .before .before .before .put2 .ensures)), ← c .before .before .before .divided .ensures) (c .before .before .set-pair .ensures v)
 
 pub divide-spec : {M : Type 1} → statement M
 divide-spec =
@@ -80,7 +64,6 @@ divide-spec =
     put-requires-2
     set-status-requires-2
     divided-requires
-    set-register-requires
-    set-register-requires-2
+    set-pair-requires
     same-length-2
     returns-2)

@@ -1,37 +1,35 @@
+-- The test on the sign is the definition's, and 0 less a negative operand, wrapped, is its magnitude.
+use Prim.Native.Nat.{_-_, _%_}
+use mathlib.Core.Path.{_≡_}
+use native.Mathlib.Omega.{arith}
+use Rattle.alu.specs.Sums.{absolute}
+use Rattle.machine.proofs.Bind.{perform-done}
+use Rattle.machine.specs.Groups.{replace}
 use borrow.Author.Needs.{needs}
 use Rattle.data_ops.proofs.single.replace.Statement.{statement}
 use Rattle.data_ops.proofs.single.replace.Tie as tie
-use Rattle.data_ops.proofs.single.replace.Reads as reads
-use Rattle.data_ops.proofs.single.replace.Lts as lts
-use Rattle.alu.proofs.sums.absolute.Reads as absolute-reads
-use Rattle.bits.proofs.bit.Reads as bit-reads
-use Rattle.machine.proofs.bus.store.Reads as store-reads
 
--- src/single.rt:67:8
 bit-requires : tie.Need-bit-requires
 bit-requires c κs = search needs
 
--- src/single.rt:68:13
-absolute-requires : tie.Need-absolute-requires
-absolute-requires c κs = search needs
+wrapping-sub-u16-requires : tie.Need-wrapping-sub-u16-requires
+wrapping-sub-u16-requires c κs = search needs
 
--- src/single.rt:69:9
 store-requires : tie.Need-store-requires
 store-requires c κs = search needs
 
--- src/single.rt:69:9
 same-length : tie.Need-same-length
 same-length c = search needs
 
--- src/single.rt:69:9
 returns : tie.Need-returns
-returns c = ?
+unfolding replace absolute
+returns c v = let e : c .before .before .before .wrapping-sub-u16 .result ≡ (65536 - c .before .before .before .before .before .before .before .before .args .x) % 65536 = omega arith in rw (← c .before .before .before .before .before .before .bit .ensures, c .before .before .before .before .before .if1 .taken, ← e) (c .before .before .store .ensures v)
 
--- src/single.rt:63:1
 returns-2 : tie.Need-returns-2
-returns-2 c = ?
+unfolding replace
+returns-2 c v = rw (← c .before .bit .ensures, c .if1 .left) (perform-done v _ _)
 
 pub replace-spec : {M : Type 1} → statement M
 replace-spec =
     tie.close
-    (tie.spec bit-requires absolute-requires store-requires same-length returns returns-2)
+    (tie.spec bit-requires wrapping-sub-u16-requires store-requires same-length returns returns-2)
