@@ -1,3 +1,4 @@
 pub mod Steady
 pub mod Does
 pub mod Switch
+pub mod Execute
