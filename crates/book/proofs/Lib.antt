@@ -2,3 +2,4 @@ pub mod Steady
 pub mod Does
 pub mod Switch
 pub mod Execute
+pub mod Step

@@ -108,15 +108,10 @@ switch-saves vector v m h =
       st = register-stored m14 wp 15 (m .state .st) h14 (h .words .st);
     }
 
--- An entry changes neither WP nor memory after its context switch.
-pub enter-saves : (vector : ℕ) (f : ℕ → ℕ) → Does Saved (enter vector f)
+-- An entry fetches nothing, and changes neither WP nor memory after its context switch.
+pub enter-saves : (vector : ℕ) (f : ℕ → ℕ) → Does (λ u m n words. Stands (n .memory) (noted m n 0)) (enter vector f)
 unfolding perform accesses fetches enter switch set-status registers set load store set-register
 enter-saves vector f v m h = switch-saves vector v m h
-
--- an entry fetches nothing
-pub enter-fetches : (vector : ℕ) (f : ℕ → ℕ) (v : ℕ) (m : Machine) → fetches (accesses v (enter vector f) m) ≡ 0
-unfolding perform accesses fetches enter switch set-status registers set load store set-register
-enter-fetches vector f v m = refl
 
 pub blwp-saves : (o : Operand) → Does Saved (switch-by-operand o)
 unfolding switch-by-operand
