@@ -3,3 +3,4 @@ pub mod Does
 pub mod Switch
 pub mod Execute
 pub mod Step
+pub mod Kept
