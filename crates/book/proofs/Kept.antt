@@ -19,6 +19,7 @@ use Rattle.machine.specs.Step.{Kind, was-reset, was-load, was-idle, was-level, 
 use Rattle.machine.proofs.Laws.{keeps-the-rest}
 use Rattle.book.specs.Book.{Note, Book, Event, opened, returned, cleared, other, turn, note, step-accesses, event-of, event, Moment, moment, save-places}
 use Rattle.book.specs.Claim.{Each, Avoided, In-workspace, Respected, Stands, Restored, Given-back, Kept}
+use Rattle.book.proofs.Each.{each-map, each-zip}
 use Rattle.book.proofs.Switch.{noted}
 use Rattle.book.proofs.Execute.{Taken, Meant}
 use Rattle.book.proofs.Step.{Meaning, step-means, Sound}
@@ -34,17 +35,6 @@ pub record Proper (n : Note) : Type 0 where
 pub record Good (m : List ℕ) (n : Note) : Type 0 where
   pub stands : Stands m n
   pub proper : Proper n
-
-pub each-map : {A : Type 0} {P Q : A → Type 0} → ((x : A) → P x → Q x) → (xs : List A) → Each P xs → Each Q xs
-unfolding Each
-each-map f [] p = tt
-each-map f (x ∷ xs) p = (f x (p .0), each-map f xs (p .1))
-
-each-zip :
-    {A : Type 0} {P Q R : A → Type 0} → ((x : A) → P x → Q x → R x) → (xs : List A) → Each P xs → Each Q xs → Each R xs
-unfolding Each
-each-zip f [] p q = tt
-each-zip f (x ∷ xs) p q = (f x (p .0) (q .0), each-zip f xs (p .1) (q .1))
 
 -- the frame: what a step does not store into keeps its bytes
 module _ (word : ℕ) (m : Machine) (n : Note) (apart : disjoint (save-places n) (written (step-accesses word m)) ≡ true) where
