@@ -1,26 +1,24 @@
 -- The claim: what one step keeps, the steps of a call keep, by induction on them; a refused call has no steps and changes
 -- nothing; and what was observed of a call is what the rules give, so the calls of a list keep it one after the other.
 use Prim.Native.Nat.{ℕ, zero, suc}
-use mathlib.Core.Path.{_≡_, refl, sym, _∙_}
+use mathlib.Core.Path.{_≡_, refl}
 use mathlib.Core.Bool.{Bool, true, false, not}
-use mathlib.Core.List.{List, [], _∷_, _++_}
+use mathlib.Core.List.{List, [], _∷_}
 use native.Mathlib.Omega.{arith}
 use lib.ListN.{length}
 use lib.Dec.{eqb, ltb}
 use borrow.Author.Tests.{eqb-true}
 use Rattle.bits.specs.Bits.{if_then_else_}
-use Rattle.memory.specs.Memory.{size, Installed}
+use Rattle.memory.specs.Memory.{size}
 use Rattle.machine.specs.declared.State.{State}
-use Rattle.machine.specs.declared.RunAnswer.{RunAnswer}
 use Rattle.machine.specs.State.{Machine, at, well-formed}
 use Rattle.machine.specs.Step.{step}
 use Rattle.machine.specs.Run.{runs, run, run-refusal}
 use Rattle.machine.specs.Laws.{Words}
 use Rattle.machine.proofs.Laws.{form}
-use Rattle.book.specs.Book.{Note, Book, turn, event, Moment, moment, moments, book-after, Call, call-moments, call-machine, all-moments}
-use Rattle.book.specs.Claim.{Seen, calls, Chained, Each, Respected, Stands, Given-back, Kept, Last-given-back, Calls-kept, Open-entries-are-kept}
+use Rattle.book.specs.Book.{Book, turn, event, Moment, moment, moments, book-after, Call, call-moments, call-machine, all-moments}
+use Rattle.book.specs.Claim.{Seen, calls, Chained, Each, Respected, Given-back, Kept, Last-given-back, Calls-kept, Open-entries-are-kept}
 use Rattle.book.proofs.Each.{each-map, each-split, each-append}
-use Rattle.book.proofs.Does.{Fit}
 use Rattle.book.proofs.Step.{Sound, step-sound}
 use Rattle.book.proofs.Kept.{Good, step-kept}
 
@@ -48,11 +46,11 @@ nothing P b m h g p = record { kept = tt; words = h; good = g; last = p }
 
 -- a run that stops at once, and one that makes a step
 module _ (stop n r : ℕ) (rs : List ℕ) (m : Machine) (b : Book) where
-  pub stops : eqb (m .state .pc) stop ≡ true → (moments stop (suc n) (r ∷ rs) m b ≡ []) × (runs stop (suc n) (r ∷ rs) m .machine ≡ m)
+  stops : eqb (m .state .pc) stop ≡ true → (moments stop (suc n) (r ∷ rs) m b ≡ []) × (runs stop (suc n) (r ∷ rs) m .machine ≡ m)
   unfolding moments runs
   stops e = (rw (e, moments), rw (e, runs))
 
-  pub goes :
+  goes :
       eqb (m .state .pc) stop ≡ false
       → (moments stop (suc n) (r ∷ rs) m b ≡ moment r m b ∷ moments stop n rs (step r m .machine) (turn (event r m) b))
       × (runs stop (suc n) (r ∷ rs) m .machine ≡ runs stop n rs (step r m .machine) .machine)
@@ -66,32 +64,40 @@ one-more :
 unfolding Each moment book-after Last
 one-more P r m n b xs k t = record { kept = (k, t .kept); words = t .words; good = t .good; last = t .last }
 
--- the steps of a run
-through :
-    (P : State → Type 0) (stop n : ℕ) (rs : List ℕ) (m : Machine) (b : Book)
-    → Sound m → Each (Good (m .memory)) b → P (m .state)
+-- a run's steps keep what is claimed
+abbrev Runs-through : (State → Type 0) → ℕ → ℕ → List ℕ → Machine → Book → Type 0
+Runs-through P stop n rs m b =
+    Sound m → Each (Good (m .memory)) b → P (m .state)
     → Each Respected (moments stop n rs m b)
     → Through P b (moments stop n rs m b) (runs stop n rs m .machine)
-unfolding moment moments runs Each
-through P stop zero rs m b h g p e = nothing P b m (h .fit .words) g p
-through P stop (suc n) [] m b h g p e = nothing P b m (h .fit .words) g p
-through P stop (suc n) (r ∷ rs) m b h g p e =
-    by-test (eqb (m .state .pc) stop) refl (through (Given-back (event r m) b) stop n rs (step r m .machine) (turn (event r m) b) (step-sound r m h))
+
+step-through :
+    (P : State → Type 0) (stop n r : ℕ) (rs : List ℕ) (m : Machine) (b : Book)
+    → Runs-through (Given-back (event r m) b) stop n rs (step r m .machine) (turn (event r m) b)
+    → Runs-through P stop (suc n) (r ∷ rs) m b
+unfolding Each moment
+step-through P stop n r rs m b later h g p e = by-test (eqb (m .state .pc) stop) refl
   where
     by-test :
         (t : Bool) → eqb (m .state .pc) stop ≡ t
-        → (Each (Good (step r m .machine .memory)) (turn (event r m) b) → Given-back (event r m) b (step r m .machine .state)
-        → Each Respected (moments stop n rs (step r m .machine) (turn (event r m) b))
-        → Through (Given-back (event r m) b) (turn (event r m) b) (moments stop n rs (step r m .machine) (turn (event r m) b)) (runs stop n rs (step r m .machine) .machine))
         → Through P b (moments stop (suc n) (r ∷ rs) m b) (runs stop (suc n) (r ∷ rs) m .machine)
-    by-test true t more =
+    by-test true t =
         let q = stops stop n r rs m b t in
         rw (q .0, q .1) (nothing P b m (h .fit .words) g p)
-    by-test false t more =
+    by-test false t =
         let q = goes stop n r rs m b t in
         let f = rw (q .0) at e in
         let k = step-kept r m b h g (f .0) in
-        rw (q .0, q .1) (one-more P r m _ b _ (k .1) (more (k .0) (k .1 .given-back) (f .1)))
+        rw (q .0, q .1) (one-more P r m _ b _ (k .1) (later (step-sound r m h) (k .0) (k .1 .given-back) (f .1)))
+
+through : (P : State → Type 0) (stop n : ℕ) (rs : List ℕ) (m : Machine) (b : Book) → Runs-through P stop n rs m b
+unfolding moments runs
+through P stop zero rs m b h g p e = nothing P b m (h .fit .words) g p
+through P stop (suc n) [] m b h g p e = nothing P b m (h .fit .words) g p
+through P stop (suc n) (r ∷ rs) m b h g p e =
+    step-through P stop n r rs m b
+    (through (Given-back (event r m) b) stop n rs (step r m .machine) (turn (event r m) b))
+    h g p e
 
 -- an accepted call: memory is installed, the state is well formed, and its steps are the run's; a refused one: nothing
 no-refusal : (a b c : Bool) → _≡_ {A = ℕ} (if not a then 1 else if not b then 2 else if c then 3 else 0) 0 → (a ≡ true) × (b ≡ true)
@@ -155,11 +161,14 @@ all-through m b (x ∷ xs) h g c e =
     let later : List Moment = all-moments (call-machine m (x .call)) (book-after b steps) (calls xs) in
     let es = each-split Respected steps later e in
     let t = call-through m b (x .call) h g (es .0) in
-    let r = all-through (call-machine m (x .call)) (book-after b steps) xs (t .words) (t .good) (rw (c .0, c .1) at (c .2)) (es .1) in
-    (each-append Kept steps later (t .kept) (r .0),
-    (rw (c .1) (each-map (λ n k. k .stands) (book-after b steps) (t .good)),
-    rw (c .0) (last-given-back _ steps _ (t .last)),
-    r .1))
+    let r = all-through (call-machine m (x .call)) (book-after b steps) xs (t .words) (t .good) (rw (c .0, c .1) at (c .2)) (es .1) in (
+      each-append Kept steps later (t .kept) (r .0),
+      (
+        rw (c .1) (each-map (λ n k. k .stands) (book-after b steps) (t .good)),
+        rw (c .0) (last-given-back _ steps _ (t .last)),
+        r .1,
+      ),
+    )
 
 pub open-entries-are-kept : Open-entries-are-kept
 unfolding Each

@@ -1,7 +1,6 @@
 -- What a microprogram does to a machine with installed memory and fields of 16 bits, as a statement of its value, the machine
 -- before and after it and the number of words fetched. A steady microprogram may stand in front.
-use Prim.Native.Nat.{ℕ, _+_, _*_, _%_}
-use mathlib.Core.Path.{_≡_, ap}
+use Prim.Native.Nat.{ℕ, _+_}
 use mathlib.Core.Bool.{Bool, true, false}
 use native.Mathlib.Nat.{add-zero}
 use Rattle.bits.specs.Bits.{if_then_else_}

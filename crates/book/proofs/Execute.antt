@@ -19,7 +19,7 @@ use Rattle.machine.specs.Operands.{register-at, register, operand}
 use Rattle.machine.specs.Groups as G
 use Rattle.machine.specs.Execute.{command-deed, instruction, execute}
 use Rattle.book.specs.Claim.{Stands}
-use Rattle.book.proofs.Steady.{Held, steady-bind, operand-steady, load-steady}
+use Rattle.book.proofs.Steady.{steady-bind, operand-steady, load-steady}
 use Rattle.book.proofs.Does.{Judgement, Does, Movable, after-steady, then-done}
 use Rattle.book.proofs.Switch.{noted, Saved, saved-movable, blwp-saves, xop-operand-saves}
 

@@ -1,23 +1,22 @@
 -- One step keeps the book: a note that stood still stands, because the step stores into none of its save words; a new note
 -- stands, because the step saved what it notes; and RTWP loads what the latest note says, because that note stands.
-use Prim.Native.Nat.{ℕ, _+_, _*_, _/_, _%_, _<_}
-use mathlib.Core.Path.{_≡_, refl, sym, _∙_}
-use mathlib.Core.Bool.{Bool, true, false, _||_, or-true}
-use mathlib.Core.List.{List, [], _∷_, _++_}
+use Prim.Native.Nat.{ℕ, _%_, _<_}
+use mathlib.Core.Path.{_≡_, _∙_}
+use mathlib.Core.Bool.{true, or-true}
+use mathlib.Core.List.{List, [], _∷_}
 use native.Mathlib.Omega.{arith}
 use Rattle.memory.specs.declared.Width.the-variants.{Word}
 use Rattle.memory.specs.Memory.{size, loaded, touched, covers, disjoint}
 use Rattle.memory.proofs.Laws.{covers-append, loaded-agree, loaded-same, disjoint-covers}
 use Rattle.psi.specs.declared.Record.{Record}
 use Rattle.psi.specs.Pins.{parted}
-use Rattle.machine.specs.declared.State.{State}
 use Rattle.machine.specs.declared.Deed.the-variants.{Ordinary, Unassigned, Switched, Returned}
 use Rattle.machine.specs.State.{Machine}
-use Rattle.machine.specs.Perform.{perform, accesses, fetches, written, even}
+use Rattle.machine.specs.Perform.{fetches, written, even}
 use Rattle.machine.specs.Operands.{register-at}
 use Rattle.machine.specs.Step.{Kind, was-reset, was-load, was-idle, was-level, ran, clocked, stepping, step}
 use Rattle.machine.proofs.Laws.{keeps-the-rest}
-use Rattle.book.specs.Book.{Note, Book, Event, opened, returned, cleared, other, turn, note, step-accesses, event-of, event, Moment, moment, save-places}
+use Rattle.book.specs.Book.{Note, Book, Event, opened, returned, cleared, other, turn, note, step-accesses, event-of, event, moment, save-places}
 use Rattle.book.specs.Claim.{Each, Avoided, In-workspace, Respected, Stands, Restored, Given-back, Kept}
 use Rattle.book.proofs.Each.{each-map, each-zip}
 use Rattle.book.proofs.Switch.{noted}
@@ -53,22 +52,26 @@ module _ (word : ℕ) (m : Machine) (n : Note) (apart : disjoint (save-places n)
   unfolding save-places
   still-stands s =
       record {
-        wp = word-kept (register-at (n .workspace) 13) (λ i c. rw (covers-append, c)) ∙ s .wp;
+        wp = word-kept (register-at (n .workspace) 13) (λ i c. simp (covers-append, c, or-true)) ∙ s .wp;
         pc = word-kept (register-at (n .workspace) 14) (λ i c. simp (covers-append, c, or-true)) ∙ s .pc;
         st = word-kept (register-at (n .workspace) 15) (λ i c. simp (covers-append, c, or-true)) ∙ s .st;
       }
+
+-- workspaces that are equal modulo the memory's size have the same registers
+same-registers :
+    (m : List ℕ) (a b : ℕ) → a % size ≡ b % size → (i : ℕ) → loaded Word m (register-at a i) ≡ loaded Word m (register-at b i)
+same-registers m a b e i = loaded-same Word m (register-at a i) (register-at b i) (omega arith)
 
 -- RTWP in a standing entry's workspace loads what was noted
 restored :
     (wp : ℕ) (n : Machine) (x : Note)
     → wp % size ≡ x .workspace % size → Good (n .memory) x → Taken wp n → Restored (n .state) x
 restored wp n x e g t =
-    let r : (i : ℕ) → loaded Word (n .memory) (register-at wp i) ≡ loaded Word (n .memory) (register-at (x .workspace) i)
-        = λ i. loaded-same Word (n .memory) (register-at wp i) (register-at (x .workspace) i) (omega arith) in
+    let same = same-registers (n .memory) wp (x .workspace) e in
     record {
-      wp = t .wp ∙ rw (r 13, g .stands .wp) (omega arith);
-      pc = t .pc ∙ rw (r 14, g .stands .pc) (omega arith);
-      st = t .st ∙ rw (r 15, g .stands .st) (omega arith);
+      wp = t .wp ∙ rw (same 13, g .stands .wp) (omega arith);
+      pc = t .pc ∙ rw (same 14, g .stands .pc) (omega arith);
+      st = t .st ∙ rw (same 15, g .stands .st) (omega arith);
     }
 
 -- what a step with this event has done
@@ -134,5 +137,5 @@ pub step-kept :
 unfolding moment
 step-kept word m b h g r =
     let k = turned m (step word m .machine) (written (step-accesses word m)) (still-stands word m) (event word m) b
-            (brought word m h) (r .avoids) (r .in-place) g in
+    (brought word m h) (r .avoids) (r .in-place) g in
     (k .0, record { stand = each-map (λ x e. e .stands) (turn (event word m) b) (k .0); given-back = k .1 })

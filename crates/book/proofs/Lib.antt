@@ -6,3 +6,4 @@ pub mod Execute
 pub mod Step
 pub mod Kept
 pub mod Claim
+pub mod Example

@@ -1,7 +1,7 @@
 -- Until a context switch only fetches move PC: a microprogram that loads no register but the flags keeps WP and ST, and its
 -- PC rises by 2 for each word that it fetches. By induction on the microprogram.
 use Prim.Native.Nat.{ℕ, _+_, _*_, _%_, _<_}
-use mathlib.Core.Path.{_≡_, refl, ap}
+use mathlib.Core.Path.{_≡_, refl}
 use mathlib.Core.Bool.{Bool, true, false}
 use mathlib.Core.List.{List, [], _∷_, _++_}
 use native.Mathlib.Omega.{arith}
@@ -15,7 +15,7 @@ use Rattle.isa.specs.declared.Operand.{Operand}
 use Rattle.machine.specs.declared.State.{State}
 use Rattle.machine.specs.State.{Registers, Machine}
 use Rattle.machine.specs.State as Own
-use Rattle.machine.specs.Micro.{Micro, done, look, assign, fetch, read, write, sense, drive, to-wp, to-pc, to-st, to-flags, _>>=_, _>>_, registers, fetched, load, store}
+use Rattle.machine.specs.Micro.{Micro, done, look, assign, fetch, read, write, sense, drive, to-wp, to-pc, to-st, to-flags, _>>=_, registers, fetched, load, store}
 use Rattle.machine.specs.Perform.{perform, accesses, Access, was-fetched, was-read, was-written, was-sensed, was-driven, fetches, after-assign, after-fetch, after-write, after-sense, after-drive}
 use Rattle.machine.specs.Operands.{register, set-register, indexed, stepped, operand}
 

@@ -1,27 +1,23 @@
 -- What a step means for the book: the clock changes nothing that is noted, an entry is a context switch from the machine
 -- before the step, and any other step is steady until it executes a word.
-use Prim.Native.Nat.{ℕ, _+_, _-_, _*_}
-use mathlib.Core.Path.{_≡_, refl}
-use mathlib.Core.Bool.{Bool, true, false}
-use Rattle.bits.specs.Bits.{if_then_else_, bit, put}
+use Prim.Native.Nat.{ℕ, _-_, _*_}
+use mathlib.Core.Bool.{false}
+use Rattle.bits.specs.Bits.{bit, put}
 use Rattle.psi.specs.declared.Record.{Record}
 use Rattle.psi.specs.Pins.{parted, code}
 use Rattle.psi.proofs.Kept.{kept-fits, kept-formed}
-use Rattle.machine.specs.declared.State.{State}
-use Rattle.machine.specs.declared.Deed.{Deed}
 use Rattle.machine.specs.declared.Deed.the-variants.{Ordinary, Unassigned, Switched, Returned}
-use Rattle.machine.specs.State.{Registers, Machine, idle, no-sample}
+use Rattle.machine.specs.State.{Machine, idle, no-sample}
 use Rattle.machine.specs.State as Own
-use Rattle.machine.specs.Micro.{Micro, done, to-flags, _>>=_, _>>_, registers, set, fetched}
+use Rattle.machine.specs.Micro.{Micro, done, to-flags, _>>=_, registers, set, fetched}
 use Rattle.machine.specs.Perform.{perform, accesses, fetches}
 use Rattle.machine.specs.Groups.{masked}
 use Rattle.machine.specs.Execute.{execute, allowance}
 use Rattle.machine.specs.Step.{Signal, reset, load, none, level, signal, admitted, Kind, was-reset, was-load, was-idle, was-level, ran, enter, proceed, boundary, clocked, stepping, step}
-use Rattle.machine.specs.Laws.{Words}
 use Rattle.machine.proofs.Laws.{Form, keeps-form}
 use Rattle.book.specs.Book.{step-accesses}
 use Rattle.book.specs.Claim.{Stands}
-use Rattle.book.proofs.Steady.{Steady, Held, registers-steady, fetched-steady}
+use Rattle.book.proofs.Steady.{Steady, registers-steady, fetched-steady}
 use Rattle.book.proofs.Does.{Fit, fit-kept, Judgement, Does, Movable, after-steady, then-done, does-if}
 use Rattle.book.proofs.Switch.{noted, enter-saves}
 use Rattle.book.proofs.Execute.{Meant, meant-movable, executed}

@@ -1,28 +1,28 @@
 -- The context switch read back: its three stores lie at places apart, so R13, R14 and R15 at the new WP are the old WP, PC and
 -- ST. What follows it in an entry or in XOP stores at most into R11.
-use Prim.Native.Nat.{ℕ, zero, suc, _+_, _*_, _/_, _%_, _<_, _≤_}
+use Prim.Native.Nat.{ℕ, suc, _+_, _*_, _/_, _%_, _<_, _≤_}
 use mathlib.Core.Path.{_≡_, refl, sym, _∙_}
-use mathlib.Core.Bool.{Bool, true, false, not, _&&_, _||_}
-use mathlib.Core.List.{List, [], _∷_}
+use mathlib.Core.Bool.{Bool, true, false}
+use mathlib.Core.List.{List}
 use native.Mathlib.Omega.{arith}
-use lib.Dec.{eqb, ltb}
+use lib.Dec.{ltb}
 use borrow.Author.Tests.{ne-eqb, ltb-true, ltb-false}
 use Rattle.bits.specs.Bits.{put}
 use Rattle.memory.specs.declared.Width.the-variants.{Word}
-use Rattle.memory.specs.Memory.{size, Installed, loaded, stored, place, places, touched, covers, disjoint}
+use Rattle.memory.specs.Memory.{Installed, loaded, stored, place, places, touched, covers, disjoint}
 use Rattle.memory.proofs.Laws.{loaded-frame, loaded-stored, stored-installed}
 use Rattle.isa.specs.declared.Operand.{Operand}
 use Rattle.alu.specs.Status.{extended}
 use Rattle.machine.specs.State.{Machine}
-use Rattle.machine.specs.Micro.{Micro, done, _>>=_, _>>_, registers, set, load, store}
+use Rattle.machine.specs.Micro.{_>>_, registers, set, load, store}
 use Rattle.machine.specs.Perform.{perform, accesses, fetches, even}
 use Rattle.machine.specs.Operands.{register-at, set-register, operand}
 use Rattle.machine.specs.Groups.{set-status, switch, switch-by-operand, switch-by-number}
 use Rattle.machine.specs.Step.{enter}
 use Rattle.book.specs.Book.{Note}
 use Rattle.book.specs.Claim.{Stands}
-use Rattle.book.proofs.Steady.{Held, operand-steady}
-use Rattle.book.proofs.Does.{Fit, Judgement, Does, Movable, after-steady}
+use Rattle.book.proofs.Steady.{operand-steady}
+use Rattle.book.proofs.Does.{Judgement, Does, Movable, after-steady}
 
 -- two words at places apart have no byte in common
 words-apart : (a b : ℕ) → (place Word a ≡ place Word b → ⊥) → disjoint (touched Word a) (touched Word b) ≡ true
