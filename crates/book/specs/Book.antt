@@ -1,17 +1,15 @@
 -- The book of open entries, as document 01 words it: it follows the steps that the rules give, and nothing else.
 use Prim.Native.Nat.{ℕ, zero, suc, _+_, _*_, _%_}
-use mathlib.Core.Bool.{Bool, true, false}
+use mathlib.Core.Bool.{true, false}
 use mathlib.Core.List.{List, [], _∷_, _++_}
 use lib.Dec.{eqb}
 use Rattle.bits.specs.Bits.{if_then_else_}
 use Rattle.memory.specs.declared.Width.the-variants.{Word}
 use Rattle.memory.specs.Memory.{touched}
-use Rattle.psi.specs.declared.Record.{Record}
 use Rattle.psi.specs.Pins.{parted}
-use Rattle.machine.specs.declared.State.{State}
 use Rattle.machine.specs.declared.Deed.the-variants.{Ordinary, Unassigned, Switched, Returned}
 use Rattle.machine.specs.State.{Machine, at}
-use Rattle.machine.specs.Perform.{Performed, Access, accesses, fetches, written}
+use Rattle.machine.specs.Perform.{Access, accesses, fetches, written}
 use Rattle.machine.specs.Operands.{register-at}
 use Rattle.machine.specs.Step.{Kind, was-reset, was-load, was-idle, was-level, ran, clocked, stepping, step}
 use Rattle.machine.specs.Run.{run-refusal, run}

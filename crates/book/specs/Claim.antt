@@ -1,10 +1,10 @@
 -- Demand 3: one claim about any list of calls of run.
 use Prim.Native.Nat.{ℕ, _%_}
 use mathlib.Core.Path.{_≡_}
-use mathlib.Core.Bool.{Bool, true, false}
+use mathlib.Core.Bool.{true}
 use mathlib.Core.List.{List, [], _∷_}
 use Rattle.memory.specs.declared.Width.the-variants.{Word}
-use Rattle.memory.specs.Memory.{size, Bytes, loaded, disjoint}
+use Rattle.memory.specs.Memory.{size, loaded, disjoint}
 use Rattle.machine.specs.declared.State.{State}
 use Rattle.machine.specs.declared.RunAnswer.{RunAnswer}
 use Rattle.machine.specs.State.{Machine, at}
@@ -36,17 +36,24 @@ unfoldable pub Each : {A : Type 0} → (A → Type 0) → List A → Type 0
 Each P [] = Unit
 Each P (x ∷ xs) = P x × Each P xs
 
--- RTWP finds an entry open and runs in the latest one's workspace
+-- A step stores into no save word of an entry that was open before it; a reset closes every entry, so it is free.
+unfoldable pub Avoided : Event → Book → List ℕ → Type 0
+Avoided (opened n) b ws = Each (λ x. disjoint (save-places x) ws ≡ true) b
+Avoided returned b ws = Each (λ x. disjoint (save-places x) ws ≡ true) b
+Avoided cleared b ws = Unit
+Avoided other b ws = Each (λ x. disjoint (save-places x) ws ≡ true) b
+
+-- RTWP runs in the workspace of the latest open entry, if there is one.
 unfoldable pub In-workspace : Event → Book → ℕ → Type 0
 In-workspace (opened n) b wp = Unit
-In-workspace returned [] wp = ⊥
+In-workspace returned [] wp = Unit
 In-workspace returned (n ∷ b) wp = wp % size ≡ n .workspace % size
 In-workspace cleared b wp = Unit
 In-workspace other b wp = Unit
 
--- The premises at a step: it stores into no save word of an entry that was open before it, and an RTWP is in its place.
+-- the premises at a step
 pub record Respected (x : Moment) : Type 0 where
-  pub avoids : Each (λ n. disjoint (save-places n) (x .writes) ≡ true) (x .book)
+  pub avoids : Avoided (x .event) (x .book) (x .writes)
   pub in-place : In-workspace (x .event) (x .book) (x .before .state .wp)
 
 -- a note's WP, PC and ST are R13, R14 and R15 at its new WP
@@ -90,11 +97,11 @@ Calls-kept m b (x ∷ xs) =
     × Calls-kept (call-machine m (x .call)) (book-after b (call-moments m b (x .call))) xs
 
 -- Open entries keep their save words, and RTWP gives back what was kept: any first state and memory, no entry open; any
--- list of calls. `Words` and `Bytes` are the types of the code: fields of 16 bits, memory of bytes.
+-- list of calls. `Words` is the type of the code: fields of 16 bits. (That memory has bytes is not needed.)
 abbrev pub Open-entries-are-kept : Type 0
 Open-entries-are-kept =
     (s : State) (m : List ℕ) (seen : List Seen)
-    → Words s → Bytes m
+    → Words s
     → Chained s m seen
     → Each Respected (all-moments (at s m) [] (calls seen))
     → Each Kept (all-moments (at s m) [] (calls seen)) × Calls-kept (at s m) [] seen
