@@ -16,9 +16,9 @@ use data_ops::single;
 use isa::ControlOp;
 use isa::Instruction;
 use isa::Operand;
-use machine::bus;
 use machine::Deed;
 use machine::State;
+use machine::bus;
 use memory::Width;
 
 // What an executed word was, and the state after it.
@@ -42,16 +42,30 @@ fn command_deed(op: ControlOp) -> Deed
 }
 
 // What every instruction but X does.
-fn perform_instruction(bytes: &mut [u8], state: State, levels: u32, instruction: Instruction) -> Executed
+fn perform_instruction(
+    bytes: &mut [u8],
+    state: State,
+    levels: u32,
+    instruction: Instruction,
+) -> Executed
     requires { ⌜ Installed (now bytes) ⌝ }
     ensures { λ r. ⌜ perform levels (Execute.instruction (Execute.again 0) instruction) (at state (now (bytes .entry))) ≡ performed (r .deed) (at (r .state) (now (bytes .exit))) ⌝ }
 {
     match instruction {
-        Instruction::Dual { op, width, source, destination } => Executed {
+        Instruction::Dual {
+            op,
+            width,
+            source,
+            destination,
+        } => Executed {
             deed: Deed::Ordinary,
             state: dual::dual(bytes, state, op, width, source, destination),
         },
-        Instruction::Register { op, source, register } => Executed {
+        Instruction::Register {
+            op,
+            source,
+            register,
+        } => Executed {
             deed: Deed::Ordinary,
             state: registers::with_register(bytes, state, op, source, register),
         },
@@ -71,7 +85,11 @@ fn perform_instruction(bytes: &mut [u8], state: State, levels: u32, instruction:
             deed: Deed::Ordinary,
             state: jump::jump(state, op, displacement),
         },
-        Instruction::Shift { op, register, count } => Executed {
+        Instruction::Shift {
+            op,
+            register,
+            count,
+        } => Executed {
             deed: Deed::Ordinary,
             state: shift::shift(bytes, state, op, register, count),
         },
@@ -116,4 +134,40 @@ fn perform_instruction(bytes: &mut [u8], state: State, levels: u32, instruction:
             state,
         },
     }
+}
+
+// X: executes the word at its operand's address, with an allowance lower by one; with none left it is an unassigned word.
+fn execute_again(
+    bytes: &mut [u8],
+    state: State,
+    levels: u32,
+    operand: Operand,
+    allowance: u16,
+) -> Executed
+    requires { ⌜ Installed (now bytes) ⌝ }
+    ensures { λ r. ⌜ perform levels (Execute.again allowance operand) (at state (now (bytes .entry))) ≡ performed (r .deed) (at (r .state) (now (bytes .exit))) ⌝ }
+{
+    if allowance == 0 {
+        return Executed {
+            deed: Deed::Unassigned,
+            state,
+        };
+    }
+    let found = operand::address(bytes, state, Width::Word, operand);
+    let there = found.state;
+    let word = bus::load(bytes, there, Width::Word, found.value);
+    let after = word.state;
+    execute(bytes, after, levels, word.value, allowance - 1)
+}
+
+// Executes a word; `allowance` is how many X it may execute.
+pub fn execute(bytes: &mut [u8], state: State, levels: u32, word: u16, allowance: u16) -> Executed
+    requires { ⌜ Installed (now bytes) ⌝ }
+    ensures { λ r. ⌜ perform levels (Execute.execute allowance word) (at state (now (bytes .entry))) ≡ performed (r .deed) (at (r .state) (now (bytes .exit))) ⌝ }
+{
+    let instruction = isa::decode(word);
+    if let Instruction::X { operand } = instruction {
+        return execute_again(bytes, state, levels, operand, allowance);
+    }
+    perform_instruction(bytes, state, levels, instruction)
 }
