@@ -24,7 +24,7 @@ enum-told-4 c = search needs
 
 returns : tie.Need-returns
 unfolding shift-overflow
-returns c = rw (c .before .before .enum-told .given .1) (cc)
+returns c = rw (c .before .before .enum-told .given .1, c .put .ensures, c .before .sign-changes .ensures)
 
 returns-2 : tie.Need-returns-2
 unfolding shift-overflow

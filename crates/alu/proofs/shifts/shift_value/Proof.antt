@@ -96,7 +96,7 @@ returns c = rw (c .enum-told .given .1) (omega arith)
 
 returns-2 : tie.Need-returns-2
 unfolding shift-value
-returns-2 c = rw (c .before .before .before .enum-told2 .given .1, ← c .before .before .bit .ensures, c .before .if1 .taken) (cc)
+returns-2 c = rw (c .before .before .before .enum-told2 .given .1, ← c .before .before .bit .ensures, c .before .if1 .taken, c .weight .ensures)
 
 returns-3 : tie.Need-returns-3
 unfolding shift-value

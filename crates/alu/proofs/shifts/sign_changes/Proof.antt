@@ -18,7 +18,7 @@ sub-result : tie.Need-sub-result
 sub-result c = let a = c .before .args in omega (arith, c .weight .ensures, above-below (a .v) (a .k) (c .before .fits .v .fits) (c .before .pre))
 
 returns : tie.Need-returns
-returns c = rw (changes-is (c .before .args .k) (c .before .args .v) (c .before .pre) (c .before .fits .v .fits)) (cc)
+returns c = rw (changes-is (c .before .args .k) (c .before .args .v) (c .before .pre) (c .before .fits .v .fits), c .weight .ensures)
 
 pub sign-changes-spec : {M : Type 1} → statement M
 sign-changes-spec = tie.close (tie.spec sub-weight weight-requires mul-twice sub-result returns)

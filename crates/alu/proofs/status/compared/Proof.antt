@@ -21,7 +21,7 @@ put-requires-3 c κs = search needs
 
 returns : tie.Need-returns
 unfolding compared
-returns c = cc
+returns c = rw (c .put3 .ensures, c .before .put2 .ensures, c .before .before .raised2 .ensures, c .before .before .before .raised .ensures, c .before .before .before .before .put .ensures)
 
 pub compared-spec : {M : Type 1} → statement M
 compared-spec =

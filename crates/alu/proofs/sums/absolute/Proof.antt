@@ -15,7 +15,7 @@ carried-requires c κs = search needs
 
 returns : tie.Need-returns
 unfolding absolute
-returns c = cc
+returns c = rw (c .carried .ensures, c .before .compared .ensures, c .before .before .magnitude .ensures)
 
 pub absolute-spec : {M : Type 1} → statement M
 absolute-spec = tie.close (tie.spec magnitude-requires compared-requires carried-requires returns)

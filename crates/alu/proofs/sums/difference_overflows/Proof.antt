@@ -25,7 +25,7 @@ add-result-2 c = let w = c .before .before .before .args .width in
 
 returns : tie.Need-returns
 unfolding difference-overflows
-returns c = cc
+returns c = rw (c .raised2 .ensures, c .before .raised .ensures, c .before .before .modulus .ensures)
 
 pub difference-overflows-spec : {M : Type 1} → statement M
 difference-overflows-spec =

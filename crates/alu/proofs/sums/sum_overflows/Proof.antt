@@ -24,7 +24,7 @@ add-result c = omega (arith, modulus-bounds (c .before .before .before .args .wi
 
 returns : tie.Need-returns
 unfolding sum-overflows
-returns c = cc
+returns c = rw (c .raised2 .ensures, c .before .raised .ensures, c .before .before .modulus .ensures)
 
 pub sum-overflows-spec : {M : Type 1} → statement M
 sum-overflows-spec =
