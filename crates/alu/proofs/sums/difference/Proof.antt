@@ -1,7 +1,6 @@
 -- `alu::sums::difference` meets its contract: the wrapped difference reduced to the width is the definition's, and carry and overflow
 -- are those of the definition.
-use Prim.Native.Nat.{_+_, _-_, _%_}
-use mathlib.Core.Path.{_≡_}
+use Prim.Native.Nat.{_+_, _-_}
 use native.Mathlib.Omega.{arith}
 use Rattle.alu.specs.Sums.{difference}
 use Rattle.alu.proofs.Laws.{reduced-twice, wrapped-difference}
@@ -26,10 +25,17 @@ carried-requires c κs = search needs
 
 returns : tie.Need-returns
 unfolding difference
-returns c = let a = c .before .before .before .before .before .args in
+returns c =
+    let a = c .before .before .before .before .before .args in
     let w = c .before .before .before .before .wrapping-sub-u16 in
-    let less : w .result ≡ (a .d + (65536 - a .s)) % 65536 = wrapped-difference (a .d) (a .s) (w .result) (omega arith) (omega arith) (omega arith) (w .ensures) in
-    rw (c .carried .ensures, c .before .difference-overflows .ensures, c .before .before .judged .ensures, c .before .before .before .reduced .ensures, less, reduced-twice (a .width) (a .d + (65536 - a .s)))
+    rw (
+      c .carried .ensures,
+      c .before .difference-overflows .ensures,
+      c .before .before .judged .ensures,
+      c .before .before .before .reduced .ensures,
+      wrapped-difference (a .d) (a .s) (w .result) (omega arith) (omega arith) (omega arith) (w .ensures),
+      reduced-twice (a .width) (a .d + (65536 - a .s)),
+    )
 
 pub difference-spec : {M : Type 1} → statement M
 difference-spec =

@@ -30,8 +30,17 @@ carried-requires c κs = search needs
 
 returns : tie.Need-returns
 unfolding sum
-returns c = let a = c .before .before .before .before .before .before .args in
-    rw (c .carried .ensures, c .before .sum-overflows .ensures, c .before .before .judged .ensures, c .before .before .before .modulus .ensures, c .before .before .before .before .reduced .ensures, c .before .before .before .before .before .wrapping-add-u16 .ensures, reduced-twice (a .width) (a .a + a .b))
+returns c =
+    let a = c .before .before .before .before .before .before .args in
+    rw (
+      c .carried .ensures,
+      c .before .sum-overflows .ensures,
+      c .before .before .judged .ensures,
+      c .before .before .before .modulus .ensures,
+      c .before .before .before .before .reduced .ensures,
+      c .before .before .before .before .before .wrapping-add-u16 .ensures,
+      reduced-twice (a .width) (a .a + a .b),
+    )
 
 pub sum-spec : {M : Type 1} → statement M
 sum-spec =
