@@ -1,5 +1,6 @@
 -- `alu::sums::sum` meets its contract: the wrapped sum reduced to the width is the sum reduced to it, and carry and overflow are
 -- those of the definition.
+use mathlib.Core.Path.{refl}
 use Prim.Native.Nat.{_+_}
 use Rattle.alu.specs.Sums.{sum}
 use Rattle.alu.proofs.Laws.{reduced-twice}
@@ -40,7 +41,7 @@ returns c =
       c .before .before .before .before .reduced .ensures,
       c .before .before .before .before .before .wrapping-add-u16 .ensures,
       reduced-twice (a .width) (a .a + a .b),
-    )
+    ) refl
 
 pub sum-spec : {M : Type 1} → statement M
 sum-spec =
