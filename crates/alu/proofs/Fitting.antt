@@ -16,7 +16,7 @@ use Rattle.alu.specs.Shifts.{amount, shift-value, shift-overflow, shifte
 use Rattle.alu.specs.Products.{product, divided}
 use Rattle.alu.specs.Laws.{Compared-fits, Parity-fits, Judged-fits, Carried-fits, Sum-fits, Difference-fits, Negated-fits, Absolute-fits, Shifted-fits, Product-fits, Divided-fits}
 use Rattle.alu.proofs.Laws.{modulus-bounds, product-below, quotient-below, either-side}
-use Rattle.alu.proofs.Shifting.{amount-bounds, above-below, high-below, rotated-below}
+use Rattle.alu.proofs.Shifting.{amount-bounds, room}
 
 pub compared-fits : Compared-fits
 unfolding compared
@@ -62,10 +62,10 @@ shift-value-fits Sla v k fits small = mod-lt (v * 2 ^ k) (omega arith)
 shift-value-fits Sra v k fits small = filled (bit 15 v)
   where
     filled : (b : Bool) → v / 2 ^ k + (if b then 65536 - 2 ^ (16 - k) else 0) < 65536
-    filled true = omega (arith, above-below v k fits small, high-below v k fits small)
-    filled false = omega (arith, above-below v k fits small, high-below v k fits small)
-shift-value-fits Srl v k fits small = omega (arith, above-below v k fits small, high-below v k fits small)
-shift-value-fits Src v k fits small = rotated-below v k fits small
+    filled true = omega (arith, room v k fits small)
+    filled false = omega (arith, room v k fits small)
+shift-value-fits Srl v k fits small = omega (arith, room v k fits small)
+shift-value-fits Src v k fits small = room v k fits small .rotated
 
 shift-overflow-fits : (op : ShiftOp) (v k st : ℕ) → st < 65536 → shift-overflow op v k st < 65536
 unfolding shift-overflow

@@ -11,15 +11,15 @@ use Rattle.bits.specs.Bits.{bit}
 use Rattle.memory.specs.declared.Width.{Width}
 use Rattle.memory.specs.declared.Width.the-variants.{Byte, Word}
 use Rattle.memory.specs.Memory.{modulus}
-use Rattle.alu.specs.Status.{raised}
+use Rattle.alu.specs.Status.{half, raised}
 
 pub modulus-bounds : (w : Width) → (0 < modulus w) × (modulus w ≤ 65536)
 modulus-bounds Byte = omega arith
 modulus-bounds Word = omega arith
 
-pub raised-below : (w : Width) (a : ℕ) → raised w a < modulus w
+pub raised-below : (w : Width) (a : ℕ) → raised w a < 65536
 unfolding raised
-raised-below w a = mod-lt _ (modulus-bounds w .0)
+raised-below w a = omega (arith, modulus-bounds w, mod-lt (a + half w) (modulus-bounds w .0))
 
 -- reducing to a word first loses nothing, at either width
 pub reduced-twice : (w : Width) (x : ℕ) → x % 65536 % modulus w ≡ x % modulus w

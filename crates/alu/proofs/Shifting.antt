@@ -2,8 +2,8 @@
 -- at one of k shifts to the left exactly if twice the number is at least 2^(16-k) and below 2^17 - 2^(16-k): one shift doubles the
 -- number and halves the room, and the first change is where the upper two bits differ.
 use Prim.Native.Nat.{ℕ, zero, suc, _+_, _-_, _*_, _/_, _%_, _^_, _<_, _≤_}
-use mathlib.Core.Path.{_≡_, refl, sym, ap, _∙_}
-use mathlib.Core.Bool.{Bool, true, not, _&&_, _||_}
+use mathlib.Core.Path.{_≡_, refl, sym, _∙_}
+use mathlib.Core.Bool.{Bool, true, false, not, _&&_, _||_}
 use native.Mathlib.Omega.{arith}
 use native.Mathlib.Nat.{mod-lt, pow-suc}
 use lib.Dec.{leb, ltb, eqb}
@@ -22,54 +22,55 @@ amount-bounds n = bounds (n % 16) (omega arith)
     bounds zero h = omega arith
     bounds (suc m) h = simp (ne-eqb (suc m) 0 (omega arith)) (omega arith)
 
-module _ (v k : ℕ) (fits : v < 65536) (small : k ≤ 16) where
-  pub above-below : 2 ^ (16 - k) ≤ 65536
-  above-below = pow-mono {i = 16 - k} {j = 16} (omega arith)
+-- the room that k shifts of v leave
+pub record Room (v k : ℕ) : Type 0 where
+  pub above : 2 ^ (16 - k) ≤ 65536
+  pub high : v / 2 ^ k < 2 ^ (16 - k)
+  pub rotated : v / 2 ^ k + v % 2 ^ k * 2 ^ (16 - k) < 65536
 
-  all-bits : (16 - k) + k ≡ 16
-  all-bits = omega arith
+pub room : (v k : ℕ) → v < 65536 → k ≤ 16 → Room v k
+room v k fits small = record { above = pow-mono {i = 16 - k} {j = 16} (omega arith); high = high-below; rotated = rotated-below }
+  where
+    high-below : v / 2 ^ k < 2 ^ (16 - k)
+    high-below = shr-lt (16 - k) k (rw (let e : (16 - k) + k ≡ 16 = omega arith in e) fits)
 
-  pub high-below : v / 2 ^ k < 2 ^ (16 - k)
-  high-below = shr-lt (16 - k) k (rw all-bits fits)
+    whole : 2 ^ k * 2 ^ (16 - k) ≡ 65536
+    whole = rw (← pow-add 2 k (16 - k), (let e : k + (16 - k) ≡ 16 = omega arith in e))
 
-  pub rotated-below : v / 2 ^ k + v % 2 ^ k * 2 ^ (16 - k) < 65536
-  rotated-below =
-      let whole : 2 ^ k * 2 ^ (16 - k) ≡ 65536 = sym (pow-add 2 k (16 - k)) ∙ ap (λ (n : ℕ). 2 ^ n) (let e : k + (16 - k) ≡ 16 = omega arith in e) in
-      omega (arith, digits-lt {q = v % 2 ^ k} {m = 2 ^ k} {r = v / 2 ^ k} {c = 2 ^ (16 - k)} (mod-lt v (pow-pos k)) high-below)
+    rotated-below : v / 2 ^ k + v % 2 ^ k * 2 ^ (16 - k) < 65536
+    rotated-below = omega (arith, whole, digits-lt (mod-lt v (pow-pos k)) high-below)
 
 -- twice a number lies neither in the lowest l nor in the highest l of 2^17 values
 abbrev pub outside : ℕ → ℕ → Bool
 outside l v = leb l (v * 2) && ltb (v * 2) (131072 - l)
 
--- one shift makes u of v: the sign changes at once, or u lies outside twice the room
-abbrev Shift-once : ℕ → ℕ → ℕ → Type 0
-Shift-once l v u = (if leb 32768 v then not (leb 32768 u) else leb 32768 u) || outside (l * 2) u ≡ outside l v
+middle : (l n : ℕ) → l ≤ n * 2 → n * 2 + l < 131072 → outside l n ≡ true
+middle l n h g = simp (le-leb l (n * 2) h, lt-ltb (n * 2) (131072 - l) (omega arith))
 
-module _ (l v u : ℕ) (small : l ≤ 32768) (fits : v < 65536) (doubled : u ≡ v * 2 % 65536) where
-  kept-positive : v < 32768 → u < 32768 → Shift-once l v u
-  kept-positive h g =
-      either-side u l
-      (λ x. simp (lt-leb 32768 v h, lt-leb 32768 u g, lt-leb (l * 2) (u * 2) (omega arith), lt-leb l (v * 2) (omega arith)))
-      (λ x. simp (lt-leb 32768 v h, lt-leb 32768 u g, le-leb (l * 2) (u * 2) (omega arith), lt-ltb (u * 2) (131072 - l * 2) (omega arith), le-leb l (v * 2) (omega arith), lt-ltb (v * 2) (131072 - l) (omega arith)))
+lowest : (l n : ℕ) → n * 2 < l → outside l n ≡ false
+lowest l n h = simp (lt-leb l (n * 2) h)
 
-  kept-negative : 32768 ≤ v → 32768 ≤ u → Shift-once l v u
-  kept-negative h g =
-      either-side (u + l) 65536
-      (λ x. simp (le-leb 32768 v h, le-leb 32768 u g, le-leb (l * 2) (u * 2) (omega arith), lt-ltb (u * 2) (131072 - l * 2) (omega arith), le-leb l (v * 2) (omega arith), lt-ltb (v * 2) (131072 - l) (omega arith)))
-      (λ x. simp (le-leb 32768 v h, le-leb 32768 u g, le-leb (l * 2) (u * 2) (omega arith), le-ltb (u * 2) (131072 - l * 2) (omega arith), le-leb l (v * 2) (omega arith), le-ltb (v * 2) (131072 - l) (omega arith)))
+highest : (l n : ℕ) → l ≤ n * 2 → 131072 ≤ n * 2 + l → outside l n ≡ false
+highest l n h g = simp (le-leb l (n * 2) h, le-ltb (n * 2) (131072 - l) (omega arith))
 
-  -- the upper two bits differ, so twice the number lies in the middle
-  middle : 32768 ≤ v * 2 → v * 2 < 98304 → outside l v ≡ true
-  middle h g = simp (le-leb l (v * 2) (omega arith), lt-ltb (v * 2) (131072 - l) (omega arith))
-
-  one-shift : Shift-once l v u
-  one-shift =
-      either-side v 32768
-      (λ h. either-side u 32768 (kept-positive h)
-      (λ g. simp (lt-leb 32768 v h, le-leb 32768 u g) (sym (middle (omega arith) (omega arith)))))
-      (λ h. either-side u 32768
-      (λ g. simp (le-leb 32768 v h, lt-leb 32768 u g) (sym (middle (omega arith) (omega arith))))
-      (kept-negative h))
+-- One shift makes u of v: the sign changes at once, or u lies outside twice the room. By the two signs: where they are the same, u and
+-- v are alike; where they differ, v lies in the middle.
+one-shift : (l v u : ℕ) → l ≤ 32768 → v < 65536 → u ≡ v * 2 % 65536
+    → (if leb 32768 v then not (leb 32768 u) else leb 32768 u) || outside (l * 2) u ≡ outside l v
+one-shift l v u small fits doubled =
+    either-side v 32768
+    (λ h. either-side u 32768
+    (λ g. simp (lt-leb 32768 v h, lt-leb 32768 u g)
+    (either-side u l
+    (λ x. lowest (l * 2) u (omega arith) ∙ sym (lowest l v (omega arith)))
+    (λ x. middle (l * 2) u (omega arith) (omega arith) ∙ sym (middle l v (omega arith) (omega arith)))))
+    (λ g. simp (lt-leb 32768 v h, le-leb 32768 u g) (sym (middle l v (omega arith) (omega arith)))))
+    (λ h. either-side u 32768
+    (λ g. simp (le-leb 32768 v h, lt-leb 32768 u g) (sym (middle l v (omega arith) (omega arith))))
+    (λ g. simp (le-leb 32768 v h, le-leb 32768 u g)
+    (either-side (u + l) 65536
+    (λ x. middle (l * 2) u (omega arith) (omega arith) ∙ sym (middle l v (omega arith) (omega arith)))
+    (λ x. highest (l * 2) u (omega arith) (omega arith) ∙ sym (highest l v (omega arith) (omega arith))))))
 
 -- j bits are left after k shifts
 changes : (k j v : ℕ) → k + j ≡ 16 → v < 65536 → sign-changes k v ≡ outside (2 ^ j) v

@@ -30,14 +30,16 @@ div-t7 : tie.Need-div-t7
 div-t7 c = search needs
 
 cast-t10 : tie.Need-cast-t10
-cast-t10 c = let a = c .before .before .args in
+cast-t10 c =
+    let a = c .before .before .args in
     record { fits = quotient-below (a .d) (a .p .high) (a .p .low) (omega arith) (omega arith) }
 
 rem-t9 : tie.Need-rem-t9
 rem-t9 c = search needs
 
 cast-t11 : tie.Need-cast-t11
-cast-t11 c = let a = c .before .before .args in
+cast-t11 c =
+    let a = c .before .before .args in
     let some : 0 < a .d = omega arith in
     omega (arith, mod-lt (a .p .high * 65536 + a .p .low) some)
 

@@ -1,4 +1,5 @@
 -- `alu::shifts::shift_overflow` meets its contract: SLA puts OV, the others leave the status.
+use mathlib.Core.Path.{refl}
 use Rattle.alu.specs.Shifts.{shift-overflow}
 use borrow.Author.Needs.{needs}
 use Rattle.alu.proofs.shifts.shift_overflow.Statement.{statement}
@@ -24,7 +25,7 @@ enum-told-4 c = search needs
 
 returns : tie.Need-returns
 unfolding shift-overflow
-returns c = rw (c .before .before .enum-told .given .1) (cc)
+returns c = rw (c .before .before .enum-told .given .1, c .put .ensures, c .before .sign-changes .ensures) refl
 
 returns-2 : tie.Need-returns-2
 unfolding shift-overflow

@@ -1,12 +1,23 @@
 -- `alu::shifts::shift_value` meets its contract: what is shifted down and what is put above it share no bit, so their sum fits a word.
+use Prim.Native.Nat.{_-_, _*_, _%_, _^_}
+use mathlib.Core.Path.{_≡_}
 use native.Mathlib.Omega.{arith}
-use lib.Bits.{and-mask}
+use lib.Bits.{bitAnd, and-mask}
 use lib.Pow.{pow-pos}
 use Rattle.alu.specs.Shifts.{shift-value}
-use Rattle.alu.proofs.Shifting.{above-below, high-below, rotated-below}
+use Rattle.alu.proofs.Shifting.{Room, room}
 use borrow.Author.Needs.{needs}
 use Rattle.alu.proofs.shifts.shift_value.Statement.{statement}
 use Rattle.alu.proofs.shifts.shift_value.Tie as tie
+
+room-of : (s : tie.Start) → Room (s .args .v) (s .args .k)
+room-of s = room (s .args .v) (s .args .k) (s .fits .v .fits) (s .pre)
+
+-- what SRC puts above: the low bits, moved up
+turned : (c : tie.After-weight3)
+    → bitAnd (c .before .before .before .before .args .v) (c .before .weight2 .result - 1) * c .weight3 .result
+    ≡ c .before .before .before .before .args .v % 2 ^ c .before .before .before .before .args .k * 2 ^ (16 - c .before .before .before .before .args .k)
+turned c = rw (c .before .weight2 .ensures, c .weight3 .ensures, and-mask (c .before .before .before .before .args .v) (c .before .before .before .before .args .k))
 
 shr-high : tie.Need-shr-high
 shr-high c = search needs
@@ -33,32 +44,22 @@ weight-requires : tie.Need-weight-requires
 weight-requires c κs = search needs
 
 sub-result : tie.Need-sub-result
-sub-result c = let a = c .before .before .before .before .before .args in
-    let f = c .before .before .before .before .before .fits .v .fits in
-    omega (arith, c .weight .ensures, above-below (a .v) (a .k) f (c .before .before .before .before .before .pre))
+sub-result c = omega (arith, c .weight .ensures, room-of (c .before .before .before .before .before))
 
 add-result : tie.Need-add-result
-add-result c = let a = c .before .before .before .before .before .args in
-    let f = c .before .before .before .before .before .fits .v .fits in
-    omega (arith, c .weight .ensures, above-below (a .v) (a .k) f (c .before .before .before .before .before .pre), high-below (a .v) (a .k) f (c .before .before .before .before .before .pre))
+add-result c = omega (arith, c .weight .ensures, room-of (c .before .before .before .before .before))
 
 cast-result-2 : tie.Need-cast-result-2
-cast-result-2 c = let a = c .before .before .before .before .before .args in
-    let f = c .before .before .before .before .before .fits .v .fits in
-    omega (arith, c .weight .ensures, above-below (a .v) (a .k) f (c .before .before .before .before .before .pre), high-below (a .v) (a .k) f (c .before .before .before .before .before .pre))
+cast-result-2 c = omega (arith, c .weight .ensures, room-of (c .before .before .before .before .before))
 
 cast-result-3 : tie.Need-cast-result-3
-cast-result-3 c = let a = c .before .before .before .before .args in
-    let f = c .before .before .before .before .fits .v .fits in
-    omega (arith, above-below (a .v) (a .k) f (c .before .before .before .before .pre), high-below (a .v) (a .k) f (c .before .before .before .before .pre))
+cast-result-3 c = omega (arith, room-of (c .before .before .before .before))
 
 enum-told-3 : tie.Need-enum-told-3
 enum-told-3 c = search needs
 
 cast-result-4 : tie.Need-cast-result-4
-cast-result-4 c = let a = c .before .before .args in
-    let f = c .before .before .fits .v .fits in
-    omega (arith, above-below (a .v) (a .k) f (c .before .before .pre), high-below (a .v) (a .k) f (c .before .before .pre))
+cast-result-4 c = omega (arith, room-of (c .before .before))
 
 enum-told-4 : tie.Need-enum-told-4
 enum-told-4 c = search needs
@@ -76,19 +77,13 @@ weight-requires-3 : tie.Need-weight-requires-3
 weight-requires-3 c κs = search needs
 
 mul-result : tie.Need-mul-result
-mul-result c = let a = c .before .before .before .before .args in
-    let f = c .before .before .before .before .fits .v .fits in
-    rw (c .before .weight2 .ensures, c .weight3 .ensures, and-mask (a .v) (a .k)) (omega (arith, rotated-below (a .v) (a .k) f (c .before .before .before .before .pre)))
+mul-result c = rw (turned c) (omega (arith, room-of (c .before .before .before .before)))
 
 add-result-2 : tie.Need-add-result-2
-add-result-2 c = let a = c .before .before .before .before .args in
-    let f = c .before .before .before .before .fits .v .fits in
-    rw (c .before .weight2 .ensures, c .weight3 .ensures, and-mask (a .v) (a .k)) (omega (arith, rotated-below (a .v) (a .k) f (c .before .before .before .before .pre)))
+add-result-2 c = rw (turned c) (omega (arith, room-of (c .before .before .before .before)))
 
 cast-result-5 : tie.Need-cast-result-5
-cast-result-5 c = let a = c .before .before .before .before .args in
-    let f = c .before .before .before .before .fits .v .fits in
-    rw (c .before .weight2 .ensures, c .weight3 .ensures, and-mask (a .v) (a .k)) (omega (arith, rotated-below (a .v) (a .k) f (c .before .before .before .before .pre)))
+cast-result-5 c = rw (turned c) (omega (arith, room-of (c .before .before .before .before)))
 
 returns : tie.Need-returns
 unfolding shift-value
@@ -96,7 +91,7 @@ returns c = rw (c .enum-told .given .1) (omega arith)
 
 returns-2 : tie.Need-returns-2
 unfolding shift-value
-returns-2 c = rw (c .before .before .before .enum-told2 .given .1, ← c .before .before .bit .ensures, c .before .if1 .taken) (cc)
+returns-2 c = rw (c .before .before .before .enum-told2 .given .1, ← c .before .before .bit .ensures, c .before .if1 .taken, c .weight .ensures)
 
 returns-3 : tie.Need-returns-3
 unfolding shift-value
@@ -108,7 +103,7 @@ returns-4 c = rw (c .enum-told3 .given .1)
 
 returns-5 : tie.Need-returns-5
 unfolding shift-value
-returns-5 c = rw (c .before .before .enum-told4 .given .1, c .before .weight2 .ensures, c .weight3 .ensures, and-mask (c .before .before .before .before .args .v) (c .before .before .before .before .args .k))
+returns-5 c = rw (c .before .before .enum-told4 .given .1, turned c)
 
 pub shift-value-spec : {M : Type 1} → statement M
 shift-value-spec =

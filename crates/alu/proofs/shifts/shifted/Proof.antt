@@ -29,7 +29,7 @@ put-requires c κs = search needs
 
 returns : tie.Need-returns
 unfolding shifted
-returns c = cc
+returns c = rw (c .put .ensures, c .before .shift-carry .ensures, c .before .before .shift-overflow .ensures, c .before .before .before .compared .ensures, c .before .before .before .before .shift-value .ensures, c .before .before .before .before .before .amount .ensures)
 
 pub shifted-spec : {M : Type 1} → statement M
 shifted-spec =

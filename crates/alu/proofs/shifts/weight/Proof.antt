@@ -11,7 +11,10 @@ shl-result : tie.Need-shl-result
 shl-result c = search needs
 
 returns : tie.Need-returns
-returns c = let small : 2 ^ c .args .k ≤ 2 ^ 16 = pow-mono (c .pre) in rw (one-mul, mod-eq-of-lt (let below : 2 ^ c .args .k < 4294967296 = omega arith in below))
+returns c =
+    let small : 2 ^ c .args .k ≤ 2 ^ 16 = pow-mono (c .pre) in
+    let below : 2 ^ c .args .k < 4294967296 = omega arith in
+    rw (one-mul, mod-eq-of-lt below)
 
 pub weight-spec : {M : Type 1} → statement M
 weight-spec = tie.close (tie.spec shl-result returns)

@@ -12,7 +12,7 @@ put-requires-2 c κs = search needs
 
 returns : tie.Need-returns
 unfolding carried
-returns c = cc
+returns c = rw (c .put2 .ensures, c .before .put .ensures)
 
 pub carried-spec : {M : Type 1} → statement M
 carried-spec = tie.close (tie.spec put-requires put-requires-2 returns)

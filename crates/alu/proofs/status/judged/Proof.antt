@@ -12,7 +12,7 @@ parity-requires c κs = search needs
 
 returns : tie.Need-returns
 unfolding judged
-returns c = cc
+returns c = rw (c .parity .ensures, c .before .compared .ensures)
 
 pub judged-spec : {M : Type 1} → statement M
 judged-spec = tie.close (tie.spec compared-requires parity-requires returns)

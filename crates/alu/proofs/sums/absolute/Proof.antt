@@ -1,4 +1,5 @@
 -- `alu::sums::absolute` meets its contract: the value is the magnitude, and the status judges the operand.
+use mathlib.Core.Path.{refl}
 use Rattle.alu.specs.Sums.{absolute}
 use borrow.Author.Needs.{needs}
 use Rattle.alu.proofs.sums.absolute.Statement.{statement}
@@ -15,7 +16,7 @@ carried-requires c κs = search needs
 
 returns : tie.Need-returns
 unfolding absolute
-returns c = cc
+returns c = rw (c .carried .ensures, c .before .compared .ensures, c .before .before .magnitude .ensures) refl
 
 pub absolute-spec : {M : Type 1} → statement M
 absolute-spec = tie.close (tie.spec magnitude-requires compared-requires carried-requires returns)
