@@ -8,7 +8,8 @@ use Rattle.psi.specs.Clock as Clock
 use Rattle.psi.specs.Pins as Pins
 use Rattle.psi.specs.declared.Record.{Record}
 use Rattle.machine.specs.declared.State.{State}
-use Rattle.machine.specs.declared.Deed.{Deed}
+pub use Rattle.machine.specs.declared.Kind.{Kind}
+pub use Rattle.machine.specs.declared.Kind.the-variants.{Reset as was-reset, Load as was-load, Idle as was-idle, Level as was-level, Ran as ran}
 use Rattle.machine.specs.State.{Registers, Machine, idle, no-sample, with-psi}
 use Rattle.machine.specs.Micro.{Micro, done, to-st, to-flags, _>>=_, _>>_, registers, set, fetched}
 use Rattle.machine.specs.Perform.{Performed, perform}
@@ -37,12 +38,6 @@ admitted r (level k) =
     else if leb k (r .st % 16) then level k
     else none
 admitted r none = none
-
--- what a step was
-pub data Kind : Type 0 where
-  was-reset was-load was-idle : Kind
-  was-level : ℕ → Kind
-  ran : Deed → Kind
 
 -- An entry: the context switch, then ST; idle is cleared and no-sample set.
 unfoldable pub enter : ℕ → (ℕ → ℕ) → Micro (Unit {0})

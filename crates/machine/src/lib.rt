@@ -26,6 +26,17 @@ pub enum Deed {
     Returned,
 }
 
+// What a step was.
+pub enum Kind {
+    Reset,
+    Load,
+    Idle,
+    // An interrupt of this level.
+    Level(u16),
+    // An instruction.
+    Ran(Deed),
+}
+
 impl State {
     // All fields 0.
     pub fn blank() -> Self
