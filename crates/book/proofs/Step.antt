@@ -13,7 +13,9 @@ use Rattle.machine.specs.Micro.{Micro, done, to-flags, _>>=_, registers, set, f
 use Rattle.machine.specs.Perform.{perform, accesses, fetches}
 use Rattle.machine.specs.Groups.{masked}
 use Rattle.machine.specs.Execute.{execute, allowance}
-use Rattle.machine.specs.Step.{Signal, reset, load, none, level, signal, admitted, Kind, was-reset, was-load, was-idle, was-level, ran, enter, proceed, boundary, clocked, stepping, step}
+use Rattle.machine.specs.declared.Kind.{Kind}
+use Rattle.machine.specs.declared.Kind.the-variants.{Reset as was-reset, Load as was-load, Idle as was-idle, Level as was-level, Ran as ran}
+use Rattle.machine.specs.Step.{Signal, reset, load, none, level, signal, admitted, enter, proceed, boundary, clocked, stepping, step}
 use Rattle.machine.proofs.Laws.{Form, keeps-form}
 use Rattle.book.specs.Book.{step-accesses}
 use Rattle.book.specs.Claim.{Stands}

@@ -4,7 +4,7 @@ use Prim.Native.Nat.{ℕ, _-_, _^_}
 use mathlib.Core.Path.{_≡_}
 use mathlib.Core.List.{List, [], _∷_}
 use Rattle.machine.specs.State.{Machine, at}
-use Rattle.machine.specs.Cases.{Poke, poked, never, quiet}
+use Rattle.machine.specs.Cases.{Poke, poked, never, quiet, zeros}
 use Rattle.book.specs.Book.{Note, Book, turn, Moment, Call, all-moments}
 use Rattle.book.specs.Claim.{Each, Respected}
 
@@ -27,7 +27,8 @@ start =
     ∷ word 0x400 0x481 ∷ word 0x202 0x420 ∷ word 0x402 0x500  -- X R1, where R1 has BLWP @0500h: its further word is after X
     ∷ word 0x500 0x240 ∷ word 0x502 0x600  -- the vector of the BLWP
     ∷ word 0x600 0x380 ∷ word 0x404 0x380  -- RTWP, twice
-    ∷ []))
+    ∷ [])
+    zeros)
 
 abbrev call : List ℕ → ℕ → Call
 call rs n = record { records = rs; steps = n; stop = never }

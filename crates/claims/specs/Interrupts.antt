@@ -9,7 +9,9 @@ use Rattle.psi.specs.Clock.{advanced}
 use Rattle.psi.specs.Pins.{parted, requested}
 use Rattle.machine.specs.declared.State.{State}
 use Rattle.machine.specs.State.{Machine, no-sample}
-use Rattle.machine.specs.Step.{Kind, was-reset, was-load, was-level, step}
+use Rattle.machine.specs.declared.Kind.{Kind}
+use Rattle.machine.specs.declared.Kind.the-variants.{Reset as was-reset, Load as was-load, Level as was-level}
+use Rattle.machine.specs.Step.{step}
 
 -- request n is the lowest that is both enabled and active
 pub record Lowest (s : Psi) (v n : ℕ) : Type 0 where

@@ -8,8 +8,8 @@ use Rattle.psi.specs.Clock as Clock
 use Rattle.psi.specs.Pins as Pins
 use Rattle.psi.specs.declared.Record.{Record}
 use Rattle.machine.specs.declared.State.{State}
-pub use Rattle.machine.specs.declared.Kind.{Kind}
-pub use Rattle.machine.specs.declared.Kind.the-variants.{Reset as was-reset, Load as was-load, Idle as was-idle, Level as was-level, Ran as ran}
+use Rattle.machine.specs.declared.Kind.{Kind}
+use Rattle.machine.specs.declared.Kind.the-variants.{Reset as was-reset, Load as was-load, Idle as was-idle, Level as was-level, Ran as ran}
 use Rattle.machine.specs.State.{Registers, Machine, idle, no-sample, with-psi}
 use Rattle.machine.specs.Micro.{Micro, done, to-st, to-flags, _>>=_, _>>_, registers, set, fetched}
 use Rattle.machine.specs.Perform.{Performed, perform}
