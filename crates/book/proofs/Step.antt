@@ -1,6 +1,6 @@
 -- What a step means for the book: the clock changes nothing that is noted, an entry is a context switch from the machine
 -- before the step, and any other step is steady until it executes a word.
-use Prim.Native.Nat.{ℕ, _-_, _*_}
+use Prim.Native.Nat.{ℕ, _-_, _*_, _%_}
 use mathlib.Core.Bool.{false}
 use Rattle.bits.specs.Bits.{bit, put}
 use Rattle.psi.specs.declared.Record.{Record}
@@ -15,7 +15,9 @@ use Rattle.machine.specs.Groups.{masked}
 use Rattle.machine.specs.Execute.{execute, allowance}
 use Rattle.machine.specs.declared.Kind.{Kind}
 use Rattle.machine.specs.declared.Kind.the-variants.{Reset as was-reset, Load as was-load, Idle as was-idle, Level as was-level, Ran as ran}
-use Rattle.machine.specs.Step.{Signal, reset, load, none, level, signal, admitted, enter, proceed, boundary, clocked, stepping, step}
+use Rattle.machine.specs.declared.Signal.{Signal}
+use Rattle.machine.specs.declared.Signal.the-variants.{Reset as reset, Load as load, Nothing as none, Level as level}
+use Rattle.machine.specs.Step.{signal, admitted, enter, proceed, boundary, clocked, stepping, step}
 use Rattle.machine.proofs.Laws.{Form, keeps-form}
 use Rattle.book.specs.Book.{step-accesses}
 use Rattle.book.specs.Claim.{Stands}
@@ -85,7 +87,7 @@ bounds reset = then-done (λ u m n i. Unit) Meaning (λ u. was-reset) (λ u m n 
 bounds load = then-done _ Meaning (λ u. was-load) (λ u m n i t. t) (enter 16380 (masked 0)) (enter-saves 16380 (masked 0))
 bounds none = λ v m h. proceeded-means _ m _ _ (proceeds v m h)
 bounds (level k) =
-    then-done _ Meaning (λ u. was-level k) (λ u m n i t. t) (enter (4 * k) (masked (k - 1))) (enter-saves (4 * k) (masked (k - 1)))
+    then-done _ Meaning (λ u. was-level k) (λ u m n i t. t) (enter (4 * k % 65536) (masked (k - 1))) (enter-saves (4 * k % 65536) (masked (k - 1)))
 
 -- the clock
 clocked-means :

@@ -26,6 +26,15 @@ pub enum Deed {
     Returned,
 }
 
+// What the request code stands for at a step's boundary.
+pub enum Signal {
+    Reset,
+    Load,
+    // An interrupt of this level.
+    Level(u16),
+    Nothing,
+}
+
 // What a step was.
 pub enum Kind {
     Reset,
