@@ -1,0 +1,53 @@
+-- Each arm is the definition's clause.
+use Rattle.machine.specs.Step as Step
+use borrow.Author.Needs.{needs}
+use Rattle.replay_core.proofs.boundary.admitted.Statement.{statement}
+use Rattle.replay_core.proofs.boundary.admitted.Tie as tie
+
+enum-told : tie.Need-enum-told
+enum-told c = search needs
+
+enum-told-2 : tie.Need-enum-told-2
+enum-told-2 c = search needs
+
+admitted-load-requires : tie.Need-admitted-load-requires
+admitted-load-requires c κs = search needs
+
+enum-known-signal : tie.Need-enum-known-signal
+enum-known-signal c = search needs
+
+admitted-level-requires : tie.Need-admitted-level-requires
+admitted-level-requires c κs = search needs
+
+enum-told-3 : tie.Need-enum-told-3
+enum-told-3 c = search needs
+
+returns : tie.Need-returns
+unfolding Step.admitted
+returns c = rw (c .enum-told .given .1)
+
+returns-2 : tie.Need-returns-2
+unfolding Step.admitted
+returns-2 c = rw (c .before .enum-told2 .given .1) (c .admitted-load .ensures)
+
+returns-3 : tie.Need-returns-3
+returns-3 c = rw (c .before .before .signal .given .1) (c .admitted-level .ensures)
+
+returns-4 : tie.Need-returns-4
+unfolding Step.admitted
+returns-4 c = rw (c .enum-told3 .given .1)
+
+pub admitted-spec : {M : Type 1} → statement M
+admitted-spec =
+    tie.close
+    (tie.spec
+    enum-told
+    enum-told-2
+    admitted-load-requires
+    enum-known-signal
+    admitted-level-requires
+    enum-told-3
+    returns
+    returns-2
+    returns-3
+    returns-4)
