@@ -11,7 +11,7 @@ use machine::bus;
 use std::num;
 
 // The address that lies a signed displacement of words from `pc`.
-fn destination(pc: u16, displacement: u16) -> u16
+fn target(pc: u16, displacement: u16) -> u16
     ensures { λ r. ⌜ r ≡ (pc + Groups.jump-bytes displacement) % 65536 ⌝ }
 {
     let ahead = num::wrapping_add_u16(pc, num::wrapping_add_u16(displacement, displacement));
@@ -29,7 +29,7 @@ pub fn jump(state: State, op: JumpOp, displacement: u16) -> State
     let st = state.st;
     if alu::status::jumps(op, st) {
         let pc = state.pc;
-        return bus::set_pc(state, destination(pc, displacement));
+        return bus::set_pc(state, target(pc, displacement));
     }
     state
 }

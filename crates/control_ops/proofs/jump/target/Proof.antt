@@ -3,8 +3,8 @@ use Rattle.machine.specs.Groups.{jump-bytes}
 use native.Mathlib.Omega.{arith}
 use borrow.Author.Tests.{lt-ltb, le-ltb}
 use borrow.Author.Needs.{needs}
-use Rattle.control_ops.proofs.jump.destination.Statement.{statement}
-use Rattle.control_ops.proofs.jump.destination.Tie as tie
+use Rattle.control_ops.proofs.jump.target.Statement.{statement}
+use Rattle.control_ops.proofs.jump.target.Tie as tie
 
 wrapping-add-u16-requires : tie.Need-wrapping-add-u16-requires
 wrapping-add-u16-requires c κs = search needs
@@ -23,8 +23,8 @@ returns-2 : tie.Need-returns-2
 unfolding jump-bytes
 returns-2 c = simp (le-ltb _ _ (c .before .if1 .left)) (omega (arith, c .wrapping-sub-u16 .ensures, c .before .before .wrapping-add-u162 .ensures, c .before .before .before .wrapping-add-u16 .ensures))
 
-pub destination-spec : {M : Type 1} → statement M
-destination-spec =
+pub target-spec : {M : Type 1} → statement M
+target-spec =
     tie.close
     (tie.spec
     wrapping-add-u16-requires
