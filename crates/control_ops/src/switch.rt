@@ -17,14 +17,10 @@ pub fn switch(bytes: &mut [u8], state: State, vector: u16) -> State
     requires { ⌜ Installed (now bytes) ⌝ }
     ensures { λ r. ⌜ ((v : ℕ) → perform v (Groups.switch vector) (at state (now (bytes .entry))) ≡ performed tt (at r (now (bytes .exit)))) ⌝ }
 {
+    let second = num::wrapping_add_u16(vector, 2);
     let wp = bus::load(bytes, state, Width::Word, vector);
     let between = wp.state;
-    let pc = bus::load(
-        bytes,
-        between,
-        Width::Word,
-        num::wrapping_add_u16(vector, 2),
-    );
+    let pc = bus::load(bytes, between, Width::Word, second);
     let old = pc.state;
     let mut s = bus::set_wp(old, wp.value);
     s = bus::set_register(bytes, s, 13, old.wp);

@@ -6,11 +6,11 @@ use borrow.Author.Needs.{needs}
 use Rattle.control_ops.proofs.switch.switch.Statement.{statement}
 use Rattle.control_ops.proofs.switch.switch.Tie as tie
 
-load-requires : tie.Need-load-requires
-load-requires c κs = search needs
-
 wrapping-add-u16-requires : tie.Need-wrapping-add-u16-requires
 wrapping-add-u16-requires c κs = search needs
+
+load-requires : tie.Need-load-requires
+load-requires c κs = search needs
 
 load-requires-2 : tie.Need-load-requires-2
 load-requires-2 c κs = search needs
@@ -50,12 +50,11 @@ returns c v =
     let r13 = r14 .before .before .before .before in
     let wp = r13 .before .before in
     let pc = wp .before .before in
-    let address = pc .before in
-    let vector = address .before .before .before in
+    let vector = pc .before .before .before in
     rw (
       perform-bind,
       vector .load .ensures v,
-      ← address .wrapping-add-u16 .ensures,
+      ← vector .before .before .wrapping-add-u16 .ensures,
       perform-bind,
       pc .load2 .ensures v,
       perform-bind,
@@ -78,8 +77,8 @@ pub switch-spec : {M : Type 1} → statement M
 switch-spec =
     tie.close
     (tie.spec
-    load-requires
     wrapping-add-u16-requires
+    load-requires
     load-requires-2
     set-wp-requires
     set-register-requires
