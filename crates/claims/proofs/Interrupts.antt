@@ -20,7 +20,7 @@ use Rattle.machine.specs.Perform.{perform}
 use Rattle.machine.specs.Execute.{execute, allowance}
 use Rattle.machine.specs.Step.{Signal, reset, load, none, level, signal, admitted, Kind, was-reset, was-load, was-idle, was-level, ran, boundary, proceed, clocked, stepping, step}
 use Rattle.machine.proofs.Bind.{perform-bind, perform-done, perform-registers}
-use Rattle.claims.specs.Interrupts.{Lowest, Lowest-at, Levels-exactly, None-unsampled, Load-exactly, Reset-exactly}
+use Rattle.claims.specs.Interrupts.{Lowest, Lowest-at, Levels-exactly, None-unsampled, Load-exactly, Reset-exactly, taken, Kinds-tell}
 
 -- the number that `request` gives is the lowest request's, where there is one; so is the code
 clash : (b : Bool) → b ≡ true → b ≡ false → ⊥
@@ -106,14 +106,6 @@ admitted-level r c k h =
     let d : c - 2 ≡ k = omega arith in
     rw (le-ltb c 2 (omega arith), ne-eqb c 2 (omega arith), lt-ltb c 7 (omega arith), n, d, le-leb _ _ mask)
 
--- the signal that a kind of step answers to
-answers : Kind → Signal
-answers was-reset = reset
-answers was-load = load
-answers (was-level k) = level k
-answers was-idle = none
-answers (ran d) = none
-
 -- the code at a step, and the signal that is admitted
 abbrev code-at : ℕ → Machine → ℕ
 code-at word m = code (clocked (parted word .cycles) m .state .psi) (parted word .levels)
@@ -129,33 +121,33 @@ step-is word m = rw (perform-bind, perform-registers)
 -- each microprogram of a boundary ends by saying its kind
 goes-on :
     (v : ℕ) (b : Bool) (m : Machine)
-    → answers (perform v (if b then done was-idle else (fetched >>= λ w. execute allowance w >>= λ d. done (ran d))) m .value) ≡ none
-unfolding answers
+    → taken (perform v (if b then done was-idle else (fetched >>= λ w. execute allowance w >>= λ d. done (ran d))) m .value) ≡ none
+unfolding taken
 goes-on v true m = rw perform-done
 goes-on v false m = rw (perform-bind, perform-bind, perform-done)
 
-proceeds : (v : ℕ) (m : Machine) → answers (perform v proceed m .value) ≡ none
+proceeds : (v : ℕ) (m : Machine) → taken (perform v proceed m .value) ≡ none
 unfolding proceed
 proceeds v m = rw (perform-bind, perform-registers, perform-bind) (goes-on v (bit idle (m .state .flags)) _)
 
-answers-boundary : (v : ℕ) (g : Signal) (m : Machine) → answers (perform v (boundary g) m .value) ≡ g
-unfolding boundary answers
-answers-boundary v reset m = rw (perform-bind, perform-done)
-answers-boundary v load m = rw (perform-bind, perform-done)
-answers-boundary v (level k) m = rw (perform-bind, perform-done)
-answers-boundary v none m = proceeds v m
+taken-boundary : (v : ℕ) (g : Signal) (m : Machine) → taken (perform v (boundary g) m .value) ≡ g
+unfolding boundary taken
+taken-boundary v reset m = rw (perform-bind, perform-done)
+taken-boundary v load m = rw (perform-bind, perform-done)
+taken-boundary v (level k) m = rw (perform-bind, perform-done)
+taken-boundary v none m = proceeds v m
 
-answers-step : (word : ℕ) (m : Machine) → answers (step word m .value) ≡ at-step word m
-answers-step word m = rw step-is (answers-boundary _ (at-step word m) _)
+taken-step : (word : ℕ) (m : Machine) → taken (step word m .value) ≡ at-step word m
+taken-step word m = rw step-is (taken-boundary _ (at-step word m) _)
 
 -- what is known of a step by its kind
 module _ (word : ℕ) (m : Machine) where
   Held : Signal → Type 0
   Held = Holds (registers (m .state)) (code-at word m)
 
-  held : (k : Kind) → step word m .value ≡ k → Held (answers k)
+  held : (k : Kind) → step word m .value ≡ k → Held (taken k)
   unfolding at-step Held
-  held k e = subst Held (sym (answers-step word m) ∙ ap answers e) (holds _ _)
+  held k e = subst Held (sym (taken-step word m) ∙ ap taken e) (holds _ _)
 
   -- and what makes it of that kind
   resets : Held reset → step word m .value ≡ was-reset
@@ -171,7 +163,7 @@ module _ (word : ℕ) (m : Machine) where
   enters k h = rw (step-is, admitted-level _ _ k h, perform-bind, perform-done)
 
 pub levels-exactly : Levels-exactly
-unfolding Held Holds answers
+unfolding Held Holds taken
 levels-exactly word m k sampled =
     (
       λ e.
@@ -184,12 +176,12 @@ levels-exactly word m k sampled =
     )
 
 pub none-unsampled : None-unsampled
-unfolding Held Holds answers
+unfolding Held Holds taken
 none-unsampled word m k set =
     (λ e. clash _ set (held word m (was-level k) e .0), λ e. clash _ set (held word m was-load e .0))
 
 pub load-exactly : Load-exactly
-unfolding Held Holds answers
+unfolding Held Holds taken
 load-exactly word m =
     (
       λ e.
@@ -200,7 +192,7 @@ load-exactly word m =
     )
 
 pub reset-exactly : Reset-exactly
-unfolding Held Holds answers
+unfolding Held Holds taken
 reset-exactly word m =
     (
       λ e.
@@ -209,3 +201,6 @@ reset-exactly word m =
           (n, l, omega arith),
       λ a. let (n, l, q) = a in let c = code-of _ _ n l in resets word m (omega arith),
     )
+
+pub kinds-tell : Kinds-tell
+kinds-tell word m = rw taken-step (step-is word m)
