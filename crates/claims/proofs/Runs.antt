@@ -6,7 +6,8 @@ use mathlib.Core.Bool.{Bool, true, false, not}
 use mathlib.Core.List.{List, [], _∷_}
 use native.Mathlib.Omega.{arith}
 use native.Mathlib.Nat.{zero-add, suc-add, add-assoc}
-use borrow.Author.Tests.{eqb-true, eqb-false, eq-eqb, ne-eqb, le-ltb}
+use borrow.Author.Tests.{eqb-true, eqb-false, eq-eqb, ne-eqb, lt-ltb, le-ltb}
+use native.Mathlib.Decide.{decLt}
 use lib.Dec.{eqb, ltb}
 use lib.ListN.{length, drop, length-drop}
 use Rattle.bits.specs.Bits.{if_then_else_}
@@ -107,7 +108,7 @@ both x y = record { machine = y .machine; steps = x .steps + y .steps; unassigne
 
 both-none : (m : Machine) (y : Ran) → both (at-once m) y ≡ y
 unfolding both
-both-none m y = rw (zero-add, zero-add)
+both-none m y = simp zero-add
 
 both-more : (k : Kind) (x y : Ran) → both (one-more k x) y ≡ one-more k (both x y)
 unfolding both
@@ -225,3 +226,75 @@ runs-in-parts m s records a b stop h =
       | fit f ↦ in-parts-fit (at s m) records a b stop h f
       | unfit k ne all ↦ in-parts-unfit (at s m) records a b stop h k ne all
     ]
+
+-- what an accepted run begins with
+record Ready (m : Machine) (records : List ℕ) (steps : ℕ) : Type 0 where
+  fits : Fit m
+  enough : steps ≤ length records
+
+ready : (m : Machine) (records : List ℕ) (steps : ℕ) → run-refusal (m .memory) (m .state) records steps ≡ 0 → Ready m records steps
+unfolding run-refusal
+ready m records steps e =
+    elim (start m) [
+      | fit f ↦ record {
+        fits = f;
+        enough = elim (decLt (length records) steps) [
+          | yes l ↦ absurd (let three = rw (eq-eqb _ _ (f .sized), f .formed, lt-ltb _ _ l) at e in omega arith)
+          | no g ↦ omega arith
+        ];
+      }
+      | unfit k ne all ↦ absurd (ne (sym (all records steps) ∙ e))
+    ]
+
+module _ (stop : ℕ) where
+  -- a run that ends before its steps are done ends at the stop address, and was at it never before
+  Ended : ℕ → List ℕ → Machine → Ran → Type 0
+  Ended n rs m x = n ≤ length rs → x .steps < n → x .machine .state .pc ≡ stop
+
+  ended : (n : ℕ) (rs : List ℕ) (m : Machine) → Over stop n rs m → Ended n rs m (at-once m)
+  unfolding Ended
+  ended zero rs m enough h l = absurd (omega arith)
+  ended n [] m used-up h l = absurd (omega arith)
+  ended n rs m (at-stop e) h l = eqb-true _ _ e
+
+  runs-ended : (n : ℕ) (rs : List ℕ) (m : Machine) → Ended n rs m (runs stop n rs m)
+  unfolding Ended
+  runs-ended = every-run stop Ended ended (λ n r rs m x e p h l. p (omega arith) (omega arith))
+
+  Never-before : ℕ → List ℕ → Machine → Ran → Type 0
+  Never-before n rs m x = (k : ℕ) → k < x .steps → runs stop k rs m .machine .state .pc ≡ stop → ⊥
+
+  never-more :
+      (n r : ℕ) (rs : List ℕ) (m : Machine) (x : Ran) → eqb (m .state .pc) stop ≡ false
+      → Never-before n rs (step r m .machine) x → Never-before (suc n) (r ∷ rs) m (one-more (step r m .value) x)
+  unfolding Never-before runs
+  never-more n r rs m x e p zero l q = eqb-false _ _ e q
+  never-more n r rs m x e p (suc k) l q = p k (omega arith) (rw (goes-on stop k r rs m e) at q)
+
+  runs-never : (n : ℕ) (rs : List ℕ) (m : Machine) → Never-before n rs m (runs stop n rs m)
+  unfolding Never-before
+  runs-never = every-run stop Never-before (λ n rs m o k l. absurd (omega arith)) never-more
+
+pub stops-exactly : Stops-exactly
+unfolding Ended Never-before result
+stops-exactly m s records steps stop e =
+    let r = ready (at s m) records steps e in
+    let d = runs-at-most stop steps records (at s m) in
+    rw (accepted-runs m s records steps stop e)
+    (
+      runs-ended stop steps records (at s m) (r .enough),
+      λ k l. rw (accepted-runs m s records k stop (fit-accepted (at s m) records k (r .fits) (omega arith)))
+          (runs-never stop steps records (at s m) k l),
+    )
+
+pub odd-never-stops : Odd-never-stops
+unfolding result Ended
+odd-never-stops m s records steps stop e odd =
+    let r = ready (at s m) records steps e in
+    let most = runs-at-most stop steps records (at s m) in
+    let f = form _ (runs-fit stop steps records (at s m) (r .fits) .formed) in
+    rw (accepted-runs m s records steps stop e)
+    (elim (decLt (runs stop steps records (at s m) .steps) steps) [
+      | yes l ↦ absurd (omega (arith, runs-ended stop steps records (at s m) (r .enough) l, f .even .pc))
+      | no g ↦ omega arith
+    ])
