@@ -1,26 +1,24 @@
 -- The kind of a step tells which signal was admitted, and the signal comes from the lowest request's number by two choices,
 -- each of which either keeps or drops it.
-use Prim.Native.Nat.{ℕ, zero, suc, _+_, _-_, _*_, _%_, _≤_, _<_}
+use Prim.Native.Nat.{ℕ, _+_, _-_, _%_, _≤_, _<_}
 use mathlib.Core.Path.{_≡_, refl, sym, ap, subst, _∙_}
 use mathlib.Core.Bool.{Bool, true, false}
-use mathlib.Core.Logic.{_↔_}
 use native.Mathlib.Omega.{arith}
 use native.Mathlib.Decide.{decLt}
 use borrow.Author.Tests.{eqb-true, eqb-false, ltb-true, ltb-false, leb-true, eq-eqb, ne-eqb, lt-ltb, le-ltb, le-leb}
 use lib.Dec.{eqb, ltb, leb}
 use Rattle.bits.specs.Bits.{if_then_else_, bit}
 use Rattle.psi.specs.declared.Psi.{Psi}
-use Rattle.psi.specs.Pins.{parted, requested, request, code}
+use Rattle.psi.specs.Pins.{parted, request, code}
 use Rattle.psi.proofs.Cases.{either-way}
 use Rattle.psi.proofs.RequestLaws.{request-meaning}
-use Rattle.machine.specs.declared.State.{State}
 use Rattle.machine.specs.State.{Registers, Machine, registers, idle, no-sample}
 use Rattle.machine.specs.Micro.{done, _>>=_, fetched}
 use Rattle.machine.specs.Perform.{perform}
 use Rattle.machine.specs.Execute.{execute, allowance}
 use Rattle.machine.specs.Step.{Signal, reset, load, none, level, signal, admitted, Kind, was-reset, was-load, was-idle, was-level, ran, boundary, proceed, clocked, stepping, step}
 use Rattle.machine.proofs.Bind.{perform-bind, perform-done, perform-registers}
-use Rattle.claims.specs.Interrupts.{Lowest, Lowest-at, Levels-exactly, None-unsampled, Load-exactly, Reset-exactly, taken, Kinds-tell}
+use Rattle.claims.specs.Interrupts.{Lowest, Levels-exactly, None-unsampled, Load-exactly, Reset-exactly, taken, Kinds-tell}
 
 -- the number that `request` gives is the lowest request's, where there is one; so is the code
 clash : (b : Bool) → b ≡ true → b ≡ false → ⊥
@@ -31,7 +29,7 @@ module _ (s : Psi) (v : ℕ) where
   not-below n l h =
       let meant = request-meaning s v in
       elim (decLt 0 (request s v)) [
-        | yes p ↦ clash _ (meant .found p .1) (l .none-lower (request s v) p h)
+        | yes p ↦ clash _ (meant .found p .1) (l .none-lower (request s v) p (omega arith))
         | no z ↦ clash _ (l .is-requested) (meant .none (omega arith) n (l .from-1) (l .to-15))
       ]
 
@@ -82,11 +80,11 @@ holds r c =
     (λ g. either-way (λ s. Holds r c (admitted r s)) (ltb c 7)
     (λ t. either-way (Holds r c) (bit no-sample (r .flags)) (λ n. tt)
     (λ n. either-way (Holds r c) (leb (c - 2) (r .st % 16))
-    (λ l. 
-      let a = ltb-false c 2 f in
-      let b = ltb-true c 7 t in
-      let d = eqb-false c 2 g in
-      (n, omega arith, omega arith, omega arith, leb-true (c - 2) _ l))
+    (λ l.
+    let a = ltb-false c 2 f in
+    let b = ltb-true c 7 t in
+    let d = eqb-false c 2 g in
+    (n, omega arith, omega arith, omega arith, leb-true (c - 2) _ l))
     (λ l. tt)))
     (λ h. tt)))
 
@@ -164,16 +162,15 @@ module _ (word : ℕ) (m : Machine) where
 
 pub levels-exactly : Levels-exactly
 unfolding Held Holds taken
-levels-exactly word m k sampled =
-    (
-      λ e.
-          let (s, c, lo, hi, mask) = held word m (was-level k) e in
-          let (n, l, q) = lowest-of _ _ _ c (omega arith) in
-          (n, l, q, lo, hi, mask),
-      λ a.
-          let (n, l, q, lo, hi, mask) = a in
-          enters word m k (sampled, code-of _ _ n l ∙ q, lo, hi, mask),
-    )
+levels-exactly word m k sampled = (
+  λ e.
+      let (s, c, lo, hi, mask) = held word m (was-level k) e in
+      let (n, l, q) = lowest-of _ _ _ c (omega arith) in
+      (n, l, q, omega arith, omega arith, omega arith),
+  λ a.
+      let (n, l, q, lo, hi, mask) = a in
+      enters word m k (sampled, code-of _ _ n l ∙ q, omega arith, omega arith, omega arith),
+)
 
 pub none-unsampled : None-unsampled
 unfolding Held Holds taken
@@ -182,25 +179,23 @@ none-unsampled word m k set =
 
 pub load-exactly : Load-exactly
 unfolding Held Holds taken
-load-exactly word m =
-    (
-      λ e.
-          let (s, c) = held word m was-load e in
-          let (n, l, q) = lowest-of _ _ _ c (omega arith) in
-          (s, (n, l, q)),
-      λ a. let (s, (n, l, q)) = a in loads word m (s, code-of _ _ n l ∙ q),
-    )
+load-exactly word m = (
+  λ e.
+      let (s, c) = held word m was-load e in
+      let (n, l, q) = lowest-of _ _ _ c (omega arith) in
+      (s, (n, l, q)),
+  λ a. let (s, (n, l, q)) = a in loads word m (s, code-of _ _ n l ∙ q),
+)
 
 pub reset-exactly : Reset-exactly
 unfolding Held Holds taken
-reset-exactly word m =
-    (
-      λ e.
-          let c = held word m was-reset e in
-          let (n, l, q) = lowest-of _ _ (code-at word m) refl (omega arith) in
-          (n, l, omega arith),
-      λ a. let (n, l, q) = a in let c = code-of _ _ n l in resets word m (omega arith),
-    )
+reset-exactly word m = (
+  λ e.
+      let c = held word m was-reset e in
+      let (n, l, q) = lowest-of _ _ (code-at word m) refl (omega arith) in
+      (n, l, omega arith),
+  λ a. let (n, l, q) = a in let c = code-of _ _ n l in resets word m (omega arith),
+)
 
 pub kinds-tell : Kinds-tell
 kinds-tell word m = rw taken-step (step-is word m)

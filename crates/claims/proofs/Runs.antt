@@ -1,16 +1,15 @@
 -- A run of a + b steps is by induction on a one of a steps and then one of b; a step keeps the memory's length and the state
 -- well formed, so that the second run is refused exactly where the first is.
-use Prim.Native.Nat.{ℕ, zero, suc, _+_, _-_, _≤_, _<_}
-use mathlib.Core.Path.{_≡_, refl, sym, ap, subst, _∙_}
-use mathlib.Core.Bool.{Bool, true, false, not}
+use Prim.Native.Nat.{ℕ, zero, suc, _+_, _≤_, _<_}
+use mathlib.Core.Path.{_≡_, refl, sym, _∙_}
+use mathlib.Core.Bool.{Bool, true, false}
 use mathlib.Core.List.{List, [], _∷_}
 use native.Mathlib.Omega.{arith}
 use native.Mathlib.Nat.{zero-add, suc-add, add-assoc}
 use borrow.Author.Tests.{eqb-true, eqb-false, eq-eqb, ne-eqb, lt-ltb, le-ltb}
 use native.Mathlib.Decide.{decLt}
-use lib.Dec.{eqb, ltb}
+use lib.Dec.{eqb}
 use lib.ListN.{length, drop, length-drop}
-use Rattle.bits.specs.Bits.{if_then_else_}
 use Rattle.memory.specs.Memory.{size}
 use Rattle.psi.proofs.Cases.{either-way}
 use Rattle.psi.proofs.Kept.{kept-formed}
@@ -18,9 +17,9 @@ use Rattle.psi.specs.Pins.{parted}
 use Rattle.machine.specs.declared.State.{State}
 use Rattle.machine.specs.declared.Deed.the-variants.{Ordinary, Unassigned, Switched, Returned}
 use Rattle.machine.specs.State.{Machine, at, well-formed}
-use Rattle.machine.specs.Step.{Kind, was-reset, was-load, was-idle, was-level, ran, clocked, stepping, step}
+use Rattle.machine.specs.Step.{Kind, was-reset, was-load, was-idle, was-level, ran, clocked, step}
 use Rattle.machine.specs.Run.{missed, Ran, at-once, one-more, runs, run-refusal, RunResult, run}
-use Rattle.machine.proofs.Laws.{Form, form, formed, keeps-form, keeps-the-length}
+use Rattle.machine.proofs.Laws.{form, formed, keeps-form, keeps-the-length}
 use Rattle.claims.specs.Runs.{followed, Runs-in-parts, Refused-runs, Accepted-exactly, Steps-at-most, Stops-exactly, Odd-never-stops}
 
 -- what a machine needs for a run to be accepted, and a step keeps
@@ -69,8 +68,8 @@ module _ (stop : ℕ) where
   module _ (P : ℕ → List ℕ → Machine → Ran → Type 0)
       (none : (n : ℕ) (rs : List ℕ) (m : Machine) → Over n rs m → P n rs m (at-once m))
       (more :
-        (n r : ℕ) (rs : List ℕ) (m : Machine) (x : Ran) → eqb (m .state .pc) stop ≡ false
-        → P n rs (step r m .machine) x → P (suc n) (r ∷ rs) m (one-more (step r m .value) x)) where
+      (n r : ℕ) (rs : List ℕ) (m : Machine) (x : Ran) → eqb (m .state .pc) stop ≡ false
+      → P n rs (step r m .machine) x → P (suc n) (r ∷ rs) m (one-more (step r m .value) x)) where
     either : (b : Bool) (n r : ℕ) (rs : List ℕ) (m : Machine) → eqb (m .state .pc) stop ≡ b
         → P n rs (step r m .machine) (runs stop n rs (step r m .machine)) → P (suc n) (r ∷ rs) m (runs stop (suc n) (r ∷ rs) m)
     either true n r rs m e p = rw (stopped (suc n) (r ∷ rs) m e) (none _ _ m (at-stop e))
@@ -210,7 +209,7 @@ module _ (m : Machine) (records : List ℕ) (a b stop : ℕ) (h : a + b ≤ leng
   in-parts-fit f =
       let first = runs stop a records m in
       let enough : b ≤ length (drop (first .steps) records) =
-          rw (length-drop (first .steps) records) (omega (arith, runs-at-most stop a records m)) in
+      rw (length-drop (first .steps) records) (omega (arith, runs-at-most stop a records m)) in
       rw (
         accepted-runs (m .memory) (m .state) records (a + b) stop (fit-accepted m records (a + b) f h),
         accepted-runs (m .memory) (m .state) records a stop (fit-accepted m records a f (omega arith)),
@@ -280,8 +279,7 @@ unfolding Ended Never-before result
 stops-exactly m s records steps stop e =
     let r = ready (at s m) records steps e in
     let d = runs-at-most stop steps records (at s m) in
-    rw (accepted-runs m s records steps stop e)
-    (
+    rw (accepted-runs m s records steps stop e) (
       runs-ended stop steps records (at s m) (r .enough),
       λ k l. rw (accepted-runs m s records k stop (fit-accepted (at s m) records k (r .fits) (omega arith)))
           (runs-never stop steps records (at s m) k l),

@@ -1,7 +1,7 @@
 -- A microprogram followed by another fetches the words of the first and then those of the second; only `fetched` fetches, and
 -- it stands in the indexed operand and in the forms with an immediate word.
-use Prim.Native.Nat.{ℕ, zero, suc, _+_, _*_, _/_, _%_}
-use mathlib.Core.Path.{_≡_, refl, sym, ap, _∙_}
+use Prim.Native.Nat.{ℕ, zero, suc, _+_}
+use mathlib.Core.Path.{_≡_, refl, sym, ap, _∙_, fun-ext}
 use mathlib.Core.Bool.{Bool, true, false}
 use mathlib.Core.List.{List, [], _∷_, _++_}
 use native.Mathlib.Omega.{arith}
@@ -10,7 +10,8 @@ use borrow.Author.Tests.{eqb-true}
 use lib.Dec.{eqb, leb}
 use Rattle.bits.specs.Bits.{if_then_else_, bit}
 use Rattle.memory.specs.declared.Width.{Width}
-use Rattle.memory.specs.declared.Width.the-variants.{Byte, Word}
+use Rattle.memory.specs.declared.Width.the-variants.{Word}
+use Rattle.memory.specs.Memory.{loaded}
 use Rattle.psi.specs.declared.CruBit.{CruBit}
 use Rattle.psi.proofs.Cases.{either-way}
 use Rattle.isa.specs.declared.Operand.{Operand}
@@ -36,15 +37,14 @@ use Rattle.isa.specs.Isa.{decoded, operand-words, further-words}
 use Rattle.alu.specs.declared.Outcome.{Outcome}
 use Rattle.alu.specs.declared.Pair.{Pair}
 use Rattle.alu.specs.Status.{jumps}
-use Rattle.machine.specs.declared.Deed.{Deed}
 use Rattle.machine.specs.State.{Machine}
 use Rattle.machine.specs.Micro.{Micro, Target, done, _>>=_, _>>_, registers, set, fetched, load, store, sensed, driven}
-use Rattle.machine.specs.Perform.{perform, accesses, fetches, Access, was-fetched, was-read, was-written, was-sensed, was-driven}
+use Rattle.machine.specs.Perform.{perform, performed, accesses, fetches, Access, was-fetched, was-read, was-written, was-sensed, was-driven}
 use Rattle.machine.specs.Operands.{register, set-register, indexed, stepped, operand}
 use Rattle.machine.specs.Groups as G
 use Rattle.machine.specs.Execute.{instruction, execute}
-use Rattle.machine.proofs.Bind.{accesses-bind}
-use Rattle.claims.specs.Words.{words, beyond, Announced-words-are-fetched}
+use Rattle.machine.proofs.Bind.{perform-bind, accesses-bind}
+use Rattle.claims.specs.Words.{words, counted, Announced-words-are-fetched, executed, Executed-words-are-fetched}
 
 fetches-append : (a b : List Access) → fetches (a ++ b) ≡ fetches a + fetches b
 unfolding fetches
@@ -228,7 +228,9 @@ module _ (v : ℕ) where
 
   of-jump : (op : JumpOp) (d : ℕ) → Takes v 0 (G.jump op d)
   unfolding G.jump
-  of-jump op d m = rw (words-bind, of-registers, zero-add) (either-way (Takes v 0) (jumps op _) (λ _. of-set _ _) (λ _. of-done tt) _)
+  of-jump op d m =
+      rw (words-bind, of-registers, zero-add)
+      (either-way (Takes v 0) (jumps op _) (λ _. of-set _ _) (λ _. of-done tt) _)
 
   of-shift-count : (c : ℕ) → Takes v 0 (G.shift-count c)
   unfolding G.shift-count
@@ -322,22 +324,43 @@ module _ (v : ℕ) where
   of-command Ckof m = of-done tt m
   of-command Lrex m = of-done tt m
 
+-- an instruction's microprogram, and then what it says it did
+then-done : {A B : Type 0} (v : ℕ) (p : Micro A) (b : B) (m : Machine) → words v (p >> done b) m ≡ words v p m
+then-done v p b m = rw (words-bind, of-done, add-zero)
+
 pub announced-words-are-fetched : Announced-words-are-fetched
-unfolding instruction further-words beyond
-announced-words-are-fetched v again (Dual op w s d) m = rw (words-bind, of-dual, of-done)
-announced-words-are-fetched v again (Register op s n) m = rw (words-bind, of-with-register, of-done)
-announced-words-are-fetched v again (Xop s n) m = rw (words-bind, of-switch-by-number, of-done)
-announced-words-are-fetched v again (Transfer op s n) m = rw (words-bind, of-transfer, of-done)
-announced-words-are-fetched v again (Bit op d) m = rw (words-bind, of-access-bit, of-done)
-announced-words-are-fetched v again (Jump op d) m = rw (words-bind, of-jump, of-done)
-announced-words-are-fetched v again (Shift op n c) m = rw (words-bind, of-shift, of-done)
-announced-words-are-fetched v again (Single op s) m = rw (words-bind, of-single, of-done)
-announced-words-are-fetched v again (Blwp s) m = rw (words-bind, of-switch-by-operand, of-done)
-announced-words-are-fetched v again (X s) m = rw (words-bind, of-operand)
-announced-words-are-fetched v again (Immediate op n) m = rw (words-bind, of-immediate, of-done)
-announced-words-are-fetched v again (Stwp n) m = rw (words-bind, of-store-workspace, of-done)
-announced-words-are-fetched v again (Stst n) m = rw (words-bind, of-store-status, of-done)
-announced-words-are-fetched v again Lwpi m = rw (words-bind, of-load-workspace, of-done)
-announced-words-are-fetched v again Limi m = rw (words-bind, of-load-mask, of-done)
-announced-words-are-fetched v again (Control op) m = rw (words-bind, of-command, of-done)
+unfolding instruction further-words counted
+announced-words-are-fetched v again (Dual op w s d) m = rw (then-done, of-dual)
+announced-words-are-fetched v again (Register op s n) m = rw (then-done, of-with-register)
+announced-words-are-fetched v again (Xop s n) m = rw (then-done, of-switch-by-number)
+announced-words-are-fetched v again (Transfer op s n) m = rw (then-done, of-transfer)
+announced-words-are-fetched v again (Bit op d) m = rw (then-done, of-access-bit)
+announced-words-are-fetched v again (Jump op d) m = rw (then-done, of-jump)
+announced-words-are-fetched v again (Shift op n c) m = rw (then-done, of-shift)
+announced-words-are-fetched v again (Single op s) m = rw (then-done, of-single)
+announced-words-are-fetched v again (Blwp s) m = rw (then-done, of-switch-by-operand)
+announced-words-are-fetched v again (X s) m = refl
+announced-words-are-fetched v again (Immediate op n) m = rw (then-done, of-immediate)
+announced-words-are-fetched v again (Stwp n) m = rw (then-done, of-store-workspace)
+announced-words-are-fetched v again (Stst n) m = rw (then-done, of-store-status)
+announced-words-are-fetched v again Lwpi m = rw (then-done, of-load-workspace)
+announced-words-are-fetched v again Limi m = rw (then-done, of-load-mask)
+announced-words-are-fetched v again (Control op) m = rw (then-done, of-command)
 announced-words-are-fetched v again Unassigned m = of-done v _ m
+
+-- X loads the word at its operand's address
+perform-load : (v : ℕ) (w : Width) (a : ℕ) (m : Machine) → perform v (load w a) m ≡ performed (loaded w (m .memory) a) m
+unfolding perform load
+perform-load v w a m = refl
+
+counted-same : (f g : Operand → ℕ) (i : Instruction) → ((o : Operand) → f o ≡ g o) → counted f i ≡ counted g i
+counted-same f g i e = ap (λ h. counted h i) (fun-ext e)
+
+pub executed-words-are-fetched : Executed-words-are-fetched
+unfolding execute executed further-words
+executed-words-are-fetched v zero w m =
+    announced-words-are-fetched v _ (decoded w) m ∙ counted-same _ _ (decoded w) (λ o. of-done v _ m)
+executed-words-are-fetched v (suc k) w m =
+    announced-words-are-fetched v _ (decoded w) m
+    ∙ counted-same _ _ (decoded w)
+    (λ o. rw (words-bind, words-bind, of-operand, of-load, perform-bind, perform-load, executed-words-are-fetched v k _ _, add-zero))

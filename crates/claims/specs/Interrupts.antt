@@ -1,13 +1,12 @@
 -- Entries are taken exactly when document 01 says.
 use Prim.Native.Nat.{ℕ, _+_, _%_, _≤_, _<_}
 use mathlib.Core.Path.{_≡_}
-use mathlib.Core.Bool.{Bool, true, false}
+use mathlib.Core.Bool.{true, false}
 use mathlib.Core.Logic.{_↔_}
 use Rattle.bits.specs.Bits.{bit}
 use Rattle.psi.specs.declared.Psi.{Psi}
 use Rattle.psi.specs.Clock.{advanced}
 use Rattle.psi.specs.Pins.{parted, requested}
-use Rattle.machine.specs.declared.State.{State}
 use Rattle.machine.specs.State.{Machine, no-sample}
 use Rattle.machine.specs.Perform.{perform}
 use Rattle.machine.specs.Step.{Signal, reset, load, none, level, Kind, was-reset, was-load, was-idle, was-level, ran, boundary, clocked, step}

@@ -1,4 +1,4 @@
--- Runs in parts, and refused runs.
+-- Runs in parts, refused runs, and where a run stops.
 use Prim.Native.Nat.{ℕ, _+_, _%_, _≤_, _<_}
 use mathlib.Core.Path.{_≡_}
 use mathlib.Core.List.{List}
@@ -20,7 +20,7 @@ joined first second =
       memory = second .memory;
     }
 
--- the same where the second begins with what the first left, on the unused records
+-- the same where the second run begins with what the first left, on the unused records
 abbrev pub followed : RunResult → List ℕ → ℕ → ℕ → RunResult
 followed first records b stop =
     joined (first .answer) (run (first .memory) (first .answer .state) (drop (first .answer .steps) records) b stop)
@@ -49,7 +49,7 @@ Accepted-exactly =
     (m : List ℕ) (s : State) (records : List ℕ) (steps stop : ℕ)
     → run m s records steps stop .answer .number ≡ run-refusal m s records steps
 
--- The steps done are at most the steps asked.
+-- The steps done are at most the steps asked, and those that met an unassigned word at most the steps done.
 abbrev pub Steps-at-most : Type 0
 Steps-at-most =
     (m : List ℕ) (s : State) (records : List ℕ) (steps stop : ℕ)

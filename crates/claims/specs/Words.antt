@@ -9,7 +9,7 @@ use Rattle.isa.specs.declared.Instruction.the-variants.{Dual, Register, Xop, Tr
 use Rattle.isa.specs.Isa.{decoded, further-words}
 use Rattle.machine.specs.declared.Deed.{Deed}
 use Rattle.machine.specs.State.{Machine}
-use Rattle.machine.specs.Micro.{Micro, _>>=_}
+use Rattle.machine.specs.Micro.{Micro}
 use Rattle.machine.specs.Perform.{Performed, perform, accesses, fetches}
 use Rattle.machine.specs.Operands.{operand}
 use Rattle.machine.specs.Execute.{instruction, execute}
@@ -18,30 +18,46 @@ use Rattle.machine.specs.Execute.{instruction, execute}
 abbrev pub words : {A : Type 0} → ℕ → Micro A → Machine → ℕ
 words v p m = fetches (accesses v p m)
 
--- what X counts besides, by what it does once its operand's address is known; no other instruction counts anything
-unfoldable pub beyond : (Performed ℕ → ℕ) → ℕ → Instruction → Machine → ℕ
-beyond f v (X o) m = f (perform v (operand Word o) m)
-beyond f v (Dual o w s d) m = 0
-beyond f v (Register o s r) m = 0
-beyond f v (Xop s n) m = 0
-beyond f v (Transfer o s n) m = 0
-beyond f v (Bit o d) m = 0
-beyond f v (Jump o d) m = 0
-beyond f v (Shift o r n) m = 0
-beyond f v (Single o s) m = 0
-beyond f v (Blwp s) m = 0
-beyond f v (Immediate o r) m = 0
-beyond f v (Stwp r) m = 0
-beyond f v (Stst r) m = 0
-beyond f v Lwpi m = 0
-beyond f v Limi m = 0
-beyond f v (Control o) m = 0
-beyond f v Unassigned m = 0
+-- an instruction's words: those announced for it, but for X what f says
+unfoldable pub counted : (Operand → ℕ) → Instruction → ℕ
+counted f (X o) = f o
+counted f (Dual o w s d) = further-words (Dual o w s d)
+counted f (Register o s r) = further-words (Register o s r)
+counted f (Xop s n) = further-words (Xop s n)
+counted f (Transfer o s n) = further-words (Transfer o s n)
+counted f (Bit o d) = further-words (Bit o d)
+counted f (Jump o d) = further-words (Jump o d)
+counted f (Shift o r n) = further-words (Shift o r n)
+counted f (Single o s) = further-words (Single o s)
+counted f (Blwp s) = further-words (Blwp s)
+counted f (Immediate o r) = further-words (Immediate o r)
+counted f (Stwp r) = further-words (Stwp r)
+counted f (Stst r) = further-words (Stst r)
+counted f Lwpi = further-words Lwpi
+counted f Limi = further-words Limi
+counted f (Control o) = further-words (Control o)
+counted f Unassigned = further-words Unassigned
 
--- For every instruction: the words fetched are those announced, and for X those of the word that it executes besides.
--- `again` is what X does once its operand's address is known.
+-- Every instruction but X fetches the words announced for it, and X what `again` fetches, which is what X does with its operand.
 abbrev pub Announced-words-are-fetched : Type 0
 Announced-words-are-fetched =
-    (v : ℕ) (again : ℕ → Micro Deed) (i : Instruction) (m : Machine)
-    → words v (instruction (λ o. operand Word o >>= again) i) m
-    ≡ further-words i + beyond (λ a. words v (again (a .value)) (a .machine)) v i m
+    (v : ℕ) (again : Operand → Micro Deed) (i : Instruction) (m : Machine)
+    → words v (instruction again i) m ≡ counted (λ o. words v (again o) m) i
+
+-- the further words of a word that is executed: X takes those announced for it, and then those of the word that it executes, with
+-- one X fewer allowed; an X beyond the allowance takes none
+unfoldable pub executed : ℕ → ℕ → ℕ → Machine → ℕ
+executed zero v w m = counted (λ o. 0) (decoded w)
+executed (suc k) v w m =
+    counted (λ o. further-words (X o) + executed k v (word (found o)) (found o .machine)) (decoded w)
+  where
+    -- its operand's address, and the word there
+    found : Operand → Performed ℕ
+    found o = perform v (operand Word o) m
+
+    word : Performed ℕ → ℕ
+    word a = loaded Word (a .machine .memory) (a .value)
+
+-- Executing a word fetches those words.
+abbrev pub Executed-words-are-fetched : Type 0
+Executed-words-are-fetched = (v k w : ℕ) (m : Machine) → words v (execute k w) m ≡ executed k v w m
