@@ -16,7 +16,11 @@ use Rattle.machine.specs.State.{Registers, Machine, registers, idle, no-sample}
 use Rattle.machine.specs.Micro.{done, _>>=_, fetched}
 use Rattle.machine.specs.Perform.{perform}
 use Rattle.machine.specs.Execute.{execute, allowance}
-use Rattle.machine.specs.Step.{Signal, reset, load, none, level, signal, admitted, Kind, was-reset, was-load, was-idle, was-level, ran, boundary, proceed, clocked, stepping, step}
+use Rattle.machine.specs.declared.Signal.{Signal}
+use Rattle.machine.specs.declared.Signal.the-variants.{Reset as reset, Load as load, Nothing as none, Level as level}
+use Rattle.machine.specs.declared.Kind.{Kind}
+use Rattle.machine.specs.declared.Kind.the-variants.{Reset as was-reset, Load as was-load, Idle as was-idle, Level as was-level, Ran as ran}
+use Rattle.machine.specs.Step.{signal, admitted, boundary, proceed, clocked, stepping, step}
 use Rattle.machine.proofs.Bind.{perform-bind, perform-done, perform-registers}
 use Rattle.claims.specs.Interrupts.{Lowest, Levels-exactly, None-unsampled, Load-exactly, Reset-exactly, taken, Kinds-tell}
 

@@ -17,7 +17,9 @@ use Rattle.psi.specs.Pins.{parted}
 use Rattle.machine.specs.declared.State.{State}
 use Rattle.machine.specs.declared.Deed.the-variants.{Ordinary, Unassigned, Switched, Returned}
 use Rattle.machine.specs.State.{Machine, at, well-formed}
-use Rattle.machine.specs.Step.{Kind, was-reset, was-load, was-idle, was-level, ran, clocked, step}
+use Rattle.machine.specs.declared.Kind.{Kind}
+use Rattle.machine.specs.declared.Kind.the-variants.{Reset as was-reset, Load as was-load, Idle as was-idle, Level as was-level, Ran as ran}
+use Rattle.machine.specs.Step.{clocked, step}
 use Rattle.machine.specs.Run.{missed, Ran, at-once, one-more, runs, run-refusal, RunResult, run}
 use Rattle.machine.proofs.Laws.{form, formed, keeps-form, keeps-the-length}
 use Rattle.claims.specs.Runs.{followed, Runs-in-parts, Refused-runs, Accepted-exactly, Steps-at-most, Stops-exactly, Odd-never-stops}

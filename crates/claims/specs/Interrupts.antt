@@ -9,7 +9,11 @@ use Rattle.psi.specs.Clock.{advanced}
 use Rattle.psi.specs.Pins.{parted, requested}
 use Rattle.machine.specs.State.{Machine, no-sample}
 use Rattle.machine.specs.Perform.{perform}
-use Rattle.machine.specs.Step.{Signal, reset, load, none, level, Kind, was-reset, was-load, was-idle, was-level, ran, boundary, clocked, step}
+use Rattle.machine.specs.declared.Signal.{Signal}
+use Rattle.machine.specs.declared.Signal.the-variants.{Reset as reset, Load as load, Nothing as none, Level as level}
+use Rattle.machine.specs.declared.Kind.{Kind}
+use Rattle.machine.specs.declared.Kind.the-variants.{Reset as was-reset, Load as was-load, Idle as was-idle, Level as was-level, Ran as ran}
+use Rattle.machine.specs.Step.{boundary, clocked, step}
 
 -- request n is the lowest that is both enabled and active
 pub record Lowest (s : Psi) (v n : ℕ) : Type 0 where
