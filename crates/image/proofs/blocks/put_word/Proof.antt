@@ -1,32 +1,38 @@
+-- `put_word` meets its contract: a word's high byte is below 256.
+use Prim.Native.Nat.{_<_, _/_}
 use borrow.Author.Needs.{needs}
+use native.Mathlib.Nat.{mod-eq-of-lt}
+use native.Mathlib.Omega.{arith}
+use Rattle.image.specs.Blocks.{put-word}
 use Rattle.image.proofs.blocks.put_word.Statement.{statement}
 use Rattle.image.proofs.blocks.put_word.Tie as tie
 use Rattle.image.proofs.blocks.put_word.Reads as reads
 use Rattle.image.proofs.blocks.put_word.Lts as lts
 
--- src/blocks.rt:29:17
+-- src/blocks.rt:53:17
 cast-block : tie.Need-cast-block
 cast-block c = search needs
 
--- src/blocks.rt:29:5
+-- src/blocks.rt:53:5
 element-write-block : tie.Need-element-write-block
 element-write-block c = search needs
 
--- src/blocks.rt:30:21
+-- src/blocks.rt:54:21
 cast-block-2 : tie.Need-cast-block-2
 cast-block-2 c = search needs
 
--- src/blocks.rt:30:11
+-- src/blocks.rt:54:11
 add-block : tie.Need-add-block
 add-block c = search needs
 
--- src/blocks.rt:30:5
+-- src/blocks.rt:54:5
 element-write-block-2 : tie.Need-element-write-block-2
 element-write-block-2 c = search needs
 
--- src/blocks.rt:25:1
+-- src/blocks.rt:49:1
 returns : tie.Need-returns
-returns c = ?
+unfolding put-word
+returns c = rw (mod-eq-of-lt (let e : c .args .word / 256 < 256 = omega arith in e))
 
 pub put-word-spec : {M : Type 1} → statement M
 put-word-spec =

@@ -1,6 +1,7 @@
 -- `words_sum` meets its contract: the sum so far and the words from `at` on make the whole sum modulo 65536.
 use Prim.Native.Nat.{ℕ, _+_, _-_, _*_, _%_, _<_, _≤_}
-use mathlib.Core.Path.{_≡_, refl, sym, ap, _∙_}
+use mathlib.Core.Path.{_≡_}
+use mathlib.Core.List.{List}
 use native.Mathlib.Omega.{arith}
 use borrow.Author.Needs.{needs}
 use lib.ListN.{length, getD, drop, length-drop}
@@ -48,10 +49,16 @@ loop-less : tie.Need-loop-less Inv-loop μ-loop
 loop-less c = omega arith
 
 loop-again : tie.Need-loop-again Inv-loop μ-loop
-loop-again c = (omega arith, omega arith, ?)
+loop-again c =
+    let p : List ℕ = c .before .before .before .before .before .before .before .args .part .now in
+    let at : ℕ = c .before .before .before .before .before .loop .at in
+    (omega arith, omega arith, omega (arith, sum-next p at (omega arith)))
 
 returns : tie.Need-returns Inv-loop μ-loop
-returns c = ?
+returns c =
+    let p : List ℕ = c .before .before .before .args .part .now in
+    let at : ℕ = c .before .loop .at in
+    omega (arith, sum-none (drop at p) (rw (length-drop at p) (omega arith)))
 
 pub words-sum-spec : {M : Type 1} → statement M
 words-sum-spec =
