@@ -1,4 +1,10 @@
+-- `block` meets its contract: number and content are the definition's, and the check word is that of both.
+use Prim.Native.Nat.{suc, _-_}
+use mathlib.Core.Path.{_≡_}
 use borrow.Author.Needs.{needs}
+use native.Mathlib.Omega.{arith}
+use Rattle.image.specs.Image.{block}
+use Rattle.image.proofs.Written.{unchecked-body}
 use Rattle.image.proofs.blocks.block.Statement.{statement}
 use Rattle.image.proofs.blocks.block.Tie as tie
 use Rattle.image.proofs.blocks.block.Reads as reads
@@ -7,33 +13,33 @@ use Rattle.image.proofs.blocks.checked.Reads as checked-reads
 use Rattle.image.proofs.blocks.header.Reads as header-reads
 use Rattle.image.proofs.blocks.page.Reads as page-reads
 
--- src/blocks.rt:111:17
 header-requires : tie.Need-header-requires
 header-requires c κs = search needs
 
--- src/blocks.rt:111:9
 checked-requires : tie.Need-checked-requires
 checked-requires c κs = search needs
 
--- src/blocks.rt:113:28
 sub-page : tie.Need-sub-page
 sub-page c = search needs
 
--- src/blocks.rt:113:17
 page-requires : tie.Need-page-requires
 page-requires c κs = search needs
 
--- src/blocks.rt:113:9
 checked-requires-2 : tie.Need-checked-requires-2
 checked-requires-2 c κs = search needs
 
--- src/blocks.rt:105:1
 returns : tie.Need-returns
-returns c = ?
+unfolding block
+returns c =
+    let a = c .before .before .before .before .args in
+    rw (c .checked .ensures, c .before .header .ensures (a .lent .now), unchecked-body (a .state) (a .lent .now) 0, c .before .before .if1 .taken)
 
--- src/blocks.rt:105:1
 returns-2 : tie.Need-returns-2
-returns-2 c = ?
+unfolding block
+returns-2 c =
+    let a = c .before .before .before .before .args in
+    let e : suc (a .i - 1) ≡ a .i = omega (arith, c .before .before .if1 .left) in
+    rw (c .checked2 .ensures, c .before .page .ensures (a .state), unchecked-body (a .state) (a .lent .now) (suc (a .i - 1)), e)
 
 pub block-spec : {M : Type 1} → statement M
 block-spec =
