@@ -66,12 +66,14 @@ padded-part n a k l h f =
     ext-getD 0 (take k (drop a (padded n l))) (padded k (take k (drop a l)))
     (long ∙ sym (length-padded k (take k (drop a l)) short))
     (λ i j. let below : i < k = omega arith in
-        rw (getD-padded k (take k (drop a l)) i,
-            getD-take k (drop a (padded n l)) i 0 below,
-            getD-drop a (padded n l) i 0,
-            getD-padded n l (a + i),
-            getD-take k (drop a l) i 0 below,
-            getD-drop a l i 0))
+    rw (
+      getD-padded k (take k (drop a l)) i,
+      getD-take k (drop a (padded n l)) i 0 below,
+      getD-drop a (padded n l) i 0,
+      getD-padded n l (a + i),
+      getD-take k (drop a l) i 0 below,
+      getD-drop a l i 0,
+    ))
 
 -- lists put together of equal parts
 
@@ -113,8 +115,10 @@ joined-part n f (suc k) i (suc j) h l =
 pub joined-parts : (n : ℕ) (l : List ℕ) (k i : ℕ) → joined (λ j. take n (drop (n * j) l)) k i ≡ take (n * k) (drop (n * i) l)
 joined-parts n l zero i = rw (mul-zero n)
 joined-parts n l (suc k) i =
-    rw (joined-parts n l k (i + 1),
-        let e : n * suc k ≡ n + n * k = omega arith in e,
-        take-add n (n * k) (drop (n * i) l),
-        drop-drop n (n * i) l,
-        let e : n * (i + 1) ≡ n * i + n = omega arith in e)
+    rw (
+      joined-parts n l k (i + 1),
+      let e : n * suc k ≡ n + n * k = omega arith in e,
+      take-add n (n * k) (drop (n * i) l),
+      drop-drop n (n * i) l,
+      let e : n * (i + 1) ≡ n * i + n = omega arith in e,
+    )

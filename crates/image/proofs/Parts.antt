@@ -1,14 +1,16 @@
 -- Where the bytes of an image's parts lie in it, and where the memory's bytes lie in its blocks.
 use Prim.Native.Nat.{ℕ, zero, suc, min, _+_, _-_, _*_, _<_, _≤_}
-use mathlib.Core.Path.{_≡_, refl, sym, ap, _∙_}
+use mathlib.Core.Path.{_≡_, refl, sym, ap, ap₂, _∙_}
+use mathlib.Core.Bool.{_&&_, and-assoc}
 use mathlib.Core.List.{List, [], _∷_, _++_, append-nil}
 use native.Mathlib.Omega.{arith}
 use native.Mathlib.Nat.{add-zero}
 use lib.ListN.{length, getD, take, drop, replicate, length-take, length-drop, drop-of-length-le}
-use lib.Seq.{take-take, take-length, drop-drop, take-all, getD-take, getD-drop, sets-eq}
-use Rattle.image.specs.Image.{image-size, block-of, content-of, contents-of, memory-of, field-of, word-at, word-bytes, padded}
+use lib.Seq.{take-take, take-length, drop-drop, take-all, getD-take, getD-drop, sets-eq, drop-append-add}
+use lib.Dec.{eqb}
+use Rattle.image.specs.Image.{image-size, block-of, content-of, contents-of, memory-of, field-of, filler-of, zeros, word-at, word-bytes, padded}
 use Rattle.image.specs.Blocks.{put-word}
-use Rattle.image.proofs.Lists.{drop-take, take-there, drop-replicate}
+use Rattle.image.proofs.Lists.{drop-take, take-there, take-min, drop-replicate, joined, joined-part, joined-length, joined-last}
 
 -- a word put at the end of a block
 pub put-last : (b : List ℕ) (x : ℕ) → length b ≡ 512 → put-word b 510 x ≡ take 510 b ++ word-bytes x
@@ -43,7 +45,65 @@ content-at img i j h =
 pub field-at : (img : List ℕ) (n : ℕ) → n < 254 → field-of img n ≡ getD img (2 * n + 2) 0 * 256 + getD img (2 * n + 2 + 1) 0
 unfolding field-of word-at
 field-at img n h =
-    rw (content-at img 0 (2 * n) (omega arith),
-        content-at img 0 (2 * n + 1) (omega arith),
-        let e : 512 * 0 + (2 + 2 * n) ≡ 2 * n + 2 = omega arith in e,
-        let e : 512 * 0 + (2 + (2 * n + 1)) ≡ 2 * n + 2 + 1 = omega arith in e)
+    rw (
+      content-at img 0 (2 * n) (omega arith),
+      content-at img 0 (2 * n + 1) (omega arith),
+      let e : 512 * 0 + (2 + 2 * n) ≡ 2 * n + 2 = omega arith in e,
+      let e : 512 * 0 + (2 + (2 * n + 1)) ≡ 2 * n + 2 + 1 = omega arith in e,
+    )
+
+-- the contents of the blocks
+
+pub content-lies : (img : List ℕ) (i : ℕ) → content-of img i ≡ take 508 (drop (512 * i + 2) img)
+unfolding content-of block-of
+content-lies img i =
+    ap (take 508) (drop-take 2 512 (drop (512 * i) img) ∙ ap (take 510) (drop-drop 2 (512 * i) img))
+    ∙ take-take 508 510 (drop (512 * i + 2) img) (omega arith)
+
+pub content-of-length : (img : List ℕ) (i : ℕ) → length img ≡ image-size → i < 34 → length (content-of img i) ≡ 508
+content-of-length img i h l = rw (content-lies img i) (simp (length-take, length-drop) (omega arith))
+
+pub contents-joined : (img : List ℕ) (k i : ℕ) → contents-of img k i ≡ joined (content-of img) k i
+unfolding contents-of
+contents-joined img zero i = refl
+contents-joined img (suc k) i = ap (λ (l : List ℕ). content-of img i ++ l) (contents-joined img k (i + 1))
+
+pub contents-part :
+    (img : List ℕ) (i : ℕ) → length img ≡ image-size → i < 33 → take 508 (drop (508 * i) (contents-of img 33 1)) ≡ content-of img (i + 1)
+contents-part img i h l =
+    rw (contents-joined img 33 1, joined-part 508 (content-of img) 33 1 i (λ p m. content-of-length img p h (omega arith)) l)
+    (ap (content-of img) (omega arith))
+
+-- what a block carries of the memory lies behind its number
+pub memory-part :
+    (img : List ℕ) (i : ℕ) → length img ≡ image-size → i < 33
+    → take 508 (drop (508 * i) (memory-of img)) ≡ take (min (508 * (i + 1)) 16384 - 508 * i) (drop (512 * i + 514) img)
+unfolding memory-of
+memory-part img i h l =
+    let all = contents-of img 33 1 in
+    let k = min (508 * (i + 1)) 16384 - 508 * i in
+    let e : min 508 (16384 - 508 * i) ≡ k = omega arith in
+    ap (take 508) (drop-take (508 * i) 16384 all)
+    ∙ take-min 508 (16384 - 508 * i) (drop (508 * i) all)
+    ∙ ap (λ (n : ℕ). take n (drop (508 * i) all)) e
+    ∙ sym (take-take k 508 (drop (508 * i) all) (omega arith))
+    ∙ ap (take k) (contents-part img i h l ∙ content-lies img (i + 1))
+    ∙ take-take k 508 (drop (512 * (i + 1) + 2) img) (omega arith)
+    ∙ rw (let e : 512 * (i + 1) + 2 ≡ 512 * i + 514 = omega arith in e)
+
+pub filler-lies : (img : List ℕ) → length img ≡ image-size → filler-of img ≡ take 480 (drop 30 img) ++ take 380 (drop 17026 img)
+unfolding filler-of
+filler-lies img h =
+    ap₂ _++_
+    (ap (drop 28) (content-lies img 0) ∙ drop-take 28 508 (drop 2 img) ∙ ap (take 480) (drop-drop 28 2 img))
+    (ap (drop 16384) (contents-joined img 33 1 ∙ joined-last (content-of img) 32 1)
+    ∙ ap (λ (n : ℕ). drop n (joined (content-of img) 32 1 ++ content-of img 33)) (ap (λ (n : ℕ). n + 128) (sym (joined-length 508 (content-of img) 32 1 (λ p m. content-of-length img p h (omega arith)))))
+    ∙ drop-append-add (joined (content-of img) 32 1) (content-of img 33) 128
+    ∙ ap (drop 128) (content-lies img 33)
+    ∙ drop-take 128 508 (drop 16898 img)
+    ∙ ap (take 380) (drop-drop 128 16898 img))
+
+pub zeros-append : (a b : List ℕ) → zeros (a ++ b) ≡ (zeros a && zeros b)
+unfolding zeros
+zeros-append [] b = refl
+zeros-append (x ∷ a) b = rw (zeros-append a b) (sym (and-assoc (eqb x 0) (zeros a) (zeros b)))

@@ -10,6 +10,11 @@ ghost use Rattle.image.specs.Blocks as Blocks;
 use machine::State;
 use psi::Psi;
 
+// Block 0 begins with these two words.
+pub const FORMAT: u16 = 0x9901;
+
+pub const EDITION: u16 = 1;
+
 // The sum of the words that the bytes are, modulo 65536.
 fn words_sum(part: &[u8]) -> u16
     ensures { λ r. ⌜ r ≡ Image.words-sum (now (part .entry)) % 65536 ⌝ }
@@ -24,7 +29,7 @@ fn words_sum(part: &[u8]) -> u16
 }
 
 // Whether all bytes are 0.
-fn zeros(part: &[u8]) -> bool
+pub(crate) fn zeros(part: &[u8]) -> bool
     ensures { λ r. ⌜ r ≡ Image.zeros (now (part .entry)) ⌝ }
 {
     let mut i = 0;
@@ -38,7 +43,7 @@ fn zeros(part: &[u8]) -> bool
 }
 
 // How many bytes of memory the blocks from 1 to `i` carry.
-fn carried(i: usize) -> usize
+pub(crate) fn carried(i: usize) -> usize
     requires { ⌜ i < 34 ⌝ }
     ensures { λ r. ⌜ r ≡ min (508 * i) 16384 ⌝ }
 {
@@ -60,8 +65,8 @@ fn header(state: State) -> [u8; 512]
 {
     let mut block = [0u8; 512];
     let psi = state.psi;
-    put_word(&mut block, 2, 0x9901);
-    put_word(&mut block, 4, 1);
+    put_word(&mut block, 2, FORMAT);
+    put_word(&mut block, 4, EDITION);
     put_word(&mut block, 6, state.wp);
     put_word(&mut block, 8, state.pc);
     put_word(&mut block, 10, state.st);
@@ -132,7 +137,7 @@ pub fn block_fault(image: &[u8], i: usize) -> u16
 }
 
 // Word `n` of block 0's content.
-fn field(image: &[u8], n: usize) -> u16
+pub(crate) fn field(image: &[u8], n: usize) -> u16
     requires { ⌜ length (now image) ≡ Image.image-size ⌝ }
     requires { ⌜ n < 254 ⌝ }
     ensures { λ r. ⌜ r ≡ Image.field-of (now (image .entry)) n ⌝ }

@@ -67,10 +67,12 @@ returns-2 c =
     let b = c .before .before .before .before in
     let a = b .before .before .before .before .args in
     let sum = whole (a .image .now) (a .i) _ (b .before .words-sum .ensures) in
-    rw (eq-eqb (words-sum (block-of (a .image .now) (a .i)) % 65536) 65535 (sym sum ∙ b .if1 .left),
-        block-word (a .image .now) (a .i),
-        ← c .before .word .ensures,
-        ne-eqb (c .before .word .result) (a .i) (c .if2 .taken))
+    rw (
+      eq-eqb (words-sum (block-of (a .image .now) (a .i)) % 65536) 65535 (sym sum ∙ b .if1 .left),
+      block-word (a .image .now) (a .i),
+      ← c .before .word .ensures,
+      ne-eqb (c .before .word .result) (a .i) (c .if2 .taken),
+    )
 
 returns-3 : tie.Need-returns-3
 unfolding block-fault
@@ -78,10 +80,12 @@ returns-3 c =
     let b = c .before .before .before .before in
     let a = b .before .before .before .before .args in
     let sum = whole (a .image .now) (a .i) _ (b .before .words-sum .ensures) in
-    rw (eq-eqb (words-sum (block-of (a .image .now) (a .i)) % 65536) 65535 (sym sum ∙ b .if1 .left),
-        block-word (a .image .now) (a .i),
-        ← c .before .word .ensures,
-        eq-eqb (c .before .word .result) (a .i) (c .if2 .left))
+    rw (
+      eq-eqb (words-sum (block-of (a .image .now) (a .i)) % 65536) 65535 (sym sum ∙ b .if1 .left),
+      block-word (a .image .now) (a .i),
+      ← c .before .word .ensures,
+      eq-eqb (c .before .word .result) (a .i) (c .if2 .left),
+    )
 
 pub block-fault-spec : {M : Type 1} → statement M
 block-fault-spec =

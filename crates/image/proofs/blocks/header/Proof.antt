@@ -77,20 +77,22 @@ returns c m =
     let c3 = c4 .before .before in
     let c2 = c3 .before .before in
     let c1 = c2 .before .before in
-    rw (c .put-word14 .ensures,
-        c13 .put-word13 .ensures,
-        c12 .put-word12 .ensures,
-        c11 .put-word11 .ensures,
-        c10 .put-word10 .ensures,
-        c9 .put-word9 .ensures,
-        c8 .put-word8 .ensures,
-        c7 .put-word7 .ensures,
-        c6 .put-word6 .ensures,
-        c5 .put-word5 .ensures,
-        c4 .put-word4 .ensures,
-        c3 .put-word3 .ensures,
-        c2 .put-word2 .ensures,
-        c1 .put-word .ensures) (filled (c1 .before .before .before .args .state) m)
+    rw (
+      c .put-word14 .ensures,
+      c13 .put-word13 .ensures,
+      c12 .put-word12 .ensures,
+      c11 .put-word11 .ensures,
+      c10 .put-word10 .ensures,
+      c9 .put-word9 .ensures,
+      c8 .put-word8 .ensures,
+      c7 .put-word7 .ensures,
+      c6 .put-word6 .ensures,
+      c5 .put-word5 .ensures,
+      c4 .put-word4 .ensures,
+      c3 .put-word3 .ensures,
+      c2 .put-word2 .ensures,
+      c1 .put-word .ensures,
+    ) (filled (c1 .before .before .before .args .state) m)
 
 pub header-spec : {M : Type 1} → statement M
 header-spec =

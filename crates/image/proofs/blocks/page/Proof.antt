@@ -67,14 +67,14 @@ pasted :
     (s : State) (m : List ℕ) (i to : ℕ) (b c : List ℕ) → length m ≡ 16384 → to ≡ min (508 * (i + 1)) 16384
     → b ≡ put-word (replicate 512 0) 0 (i + 1)
     → c ≡ take (length (take (to - 508 * i) (drop (508 * i) m))) (take (to - 508 * i) (drop (508 * i) m))
-        ++ drop (length (take (to - 508 * i) (drop (508 * i) m))) (take 508 (drop 2 b))
+    ++ drop (length (take (to - 508 * i) (drop (508 * i) m))) (take 508 (drop 2 b))
     → putMid 2 508 b c ≡ unchecked s m (suc i)
 unfolding unchecked content put-word
 pasted s m i to b c h t e f =
     let part = take (to - 508 * i) (drop (508 * i) m) in
     let zeros : take 508 (drop 2 b) ≡ replicate 508 0 = ap (λ (l : List ℕ). take 508 (drop 2 l)) e in
     let filled : c ≡ padded 508 (take 508 (drop (508 * i) m)) =
-        f ∙ ap (λ (l : List ℕ). take (length part) part ++ drop (length part) l) zeros ∙ rw (take-length part, t) (page-content m i h) in
+    f ∙ ap (λ (l : List ℕ). take (length part) part ++ drop (length part) l) zeros ∙ rw (take-length part, t) (page-content m i h) in
     ap (λ (l : List ℕ). putMid 2 508 l c) (e ∙ ap (put-word (replicate 512 0) 0) (add-one i))
     ∙ ap (λ (l : List ℕ). word-bytes (suc i) ++ (l ++ word-bytes 0)) filled
 

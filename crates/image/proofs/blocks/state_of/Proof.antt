@@ -57,18 +57,20 @@ returns c =
     let c3 = c4 .before in
     let c2 = c3 .before in
     let c1 = c2 .before in
-    rw (c .field12 .ensures,
-        c11 .field11 .ensures,
-        c10 .field10 .ensures,
-        c9 .field9 .ensures,
-        c8 .field8 .ensures,
-        c7 .field7 .ensures,
-        c6 .field6 .ensures,
-        c5 .field5 .ensures,
-        c4 .field4 .ensures,
-        c3 .field3 .ensures,
-        c2 .field2 .ensures,
-        c1 .field .ensures)
+    rw (
+      c .field12 .ensures,
+      c11 .field11 .ensures,
+      c10 .field10 .ensures,
+      c9 .field9 .ensures,
+      c8 .field8 .ensures,
+      c7 .field7 .ensures,
+      c6 .field6 .ensures,
+      c5 .field5 .ensures,
+      c4 .field4 .ensures,
+      c3 .field3 .ensures,
+      c2 .field2 .ensures,
+      c1 .field .ensures,
+    )
 
 pub state-of-spec : {M : Type 1} → statement M
 state-of-spec =

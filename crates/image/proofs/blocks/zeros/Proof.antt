@@ -44,11 +44,12 @@ loop-less : tie.Need-loop-less Inv-loop μ-loop
 loop-less c = omega arith
 
 loop-again : tie.Need-loop-again Inv-loop μ-loop
-loop-again c =
-    (omega arith,
-    c .before .before .before .loop .inv .1
-    ∙ next (c .before .before .before .before .args .part .now) (c .before .before .before .loop .i) (omega arith)
-    ∙ rw (eq-eqb _ _ (c .if1 .left)))
+loop-again c = (
+  omega arith,
+  c .before .before .before .loop .inv .1
+      ∙ next (c .before .before .before .before .args .part .now) (c .before .before .before .loop .i) (omega arith)
+      ∙ rw (eq-eqb _ _ (c .if1 .left)),
+)
 
 returns-2 : tie.Need-returns-2 Inv-loop μ-loop
 unfolding zeros
