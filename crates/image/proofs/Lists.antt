@@ -5,8 +5,9 @@ use mathlib.Core.Path.{_≡_, refl, sym, ap, _∙_}
 use mathlib.Core.List.{List, [], _∷_, _++_, append-assoc, append-nil}
 use native.Mathlib.Omega.{arith}
 use native.Mathlib.Nat.{add-zero, mul-zero}
-use lib.ListN.{length, getD, take, drop, replicate, length-append, length-take, length-drop, length-replicate, List·getD-append, List·getD-eq-default}
-use lib.Seq.{take-nil, take-all, take-take, take-add, drop-drop, take-at, drop-at, take-append-add, drop-append-add, getD-append-add, getD-take, getD-drop, ext-getD}
+use lib.ListN.{length, getD, take, drop, replicate, length-append, length-take, length-drop, length-replicate, drop-of-length-le}
+use borrow.Rule.Slice.PartMut.{putMid}
+use lib.Seq.{length-take-le, take-length, take-nil, take-all, take-take, take-add, drop-drop, take-at, drop-at, take-append-add, drop-append-add, getD-append-add, getD-take, getD-drop, ext-getD}
 use Rattle.image.specs.Image.{padded}
 
 pub drop-take : (a n : ℕ) (l : List ℕ) → drop a (take n l) ≡ take (n - a) (drop a l)
@@ -122,3 +123,25 @@ joined-parts n l (suc k) i =
       drop-drop n (n * i) l,
       let e : n * (i + 1) ≡ n * i + n = omega arith in e,
     )
+
+-- a list that is copied part by part over another: the part from `from` up to `to` is copied next
+pub grown :
+    (all old l p q : List ℕ) (from to : ℕ) → length all ≡ length old → from ≤ to → to ≤ length old
+    → l ≡ take from all ++ drop from old → p ≡ take (to - from) (drop from all)
+    → q ≡ take (length p) p ++ drop (length p) (take (to - from) (drop from l))
+    → putMid from (to - from) l q ≡ take to all ++ drop to old
+grown all old l p q from to same order fits so-far part copied =
+    let front : length (take from all) ≡ from = length-take-le from all (omega arith) in
+    let before : take from l ≡ take from all = ap (take from) so-far ∙ take-at (take from all) (drop from old) from front in
+    let after : drop from l ≡ drop from old = ap (drop from) so-far ∙ drop-at (take from all) (drop from old) from front in
+    let long : length p ≡ to - from =
+        rw part (length-take-le (to - from) (drop from all) (rw (length-drop from all) (omega arith))) in
+    let none : drop (length p) (take (to - from) (drop from l)) ≡ [] =
+        drop-of-length-le (take (to - from) (drop from l)) {i = length p} (rw (long, length-take (to - from) (drop from l)) (omega arith)) in
+    let whole : q ≡ p = copied ∙ rw (none, take-length p) (append-nil p) in
+    let rest : drop (to - from) (drop from l) ≡ drop to old =
+        rw (after, drop-drop (to - from) from old, let e : from + (to - from) ≡ to = omega arith in e) in
+    rw (before, whole, rest, ← append-assoc (take from all) p (drop to old), part, ← take-add from (to - from) all, let e : from + (to - from) ≡ to = omega arith in e)
+
+pub grown-length : (all old : List ℕ) (n : ℕ) → length all ≡ length old → length (take n all ++ drop n old) ≡ length old
+grown-length all old n same = simp (length-append, length-take, length-drop) (omega arith)

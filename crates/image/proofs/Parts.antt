@@ -6,11 +6,11 @@ use mathlib.Core.List.{List, [], _∷_, _++_, append-nil}
 use native.Mathlib.Omega.{arith}
 use native.Mathlib.Nat.{add-zero}
 use lib.ListN.{length, getD, take, drop, replicate, length-take, length-drop, drop-of-length-le}
-use lib.Seq.{take-take, take-length, drop-drop, take-all, getD-take, getD-drop, sets-eq, drop-append-add}
+use lib.Seq.{length-take-le, take-take, take-length, drop-drop, take-all, getD-take, getD-drop, sets-eq, drop-append-add}
 use lib.Dec.{eqb}
 use Rattle.image.specs.Image.{image-size, block-of, content-of, contents-of, memory-of, field-of, filler-of, zeros, word-at, word-bytes, padded}
 use Rattle.image.specs.Blocks.{put-word}
-use Rattle.image.proofs.Lists.{drop-take, take-there, take-min, drop-replicate, joined, joined-part, joined-length, joined-last}
+use Rattle.image.proofs.Lists.{drop-take, take-there, drop-replicate, joined, joined-part, joined-length, joined-last}
 
 -- a word put at the end of a block
 pub put-last : (b : List ℕ) (x : ℕ) → length b ≡ 512 → put-word b 510 x ≡ take 510 b ++ word-bytes x
@@ -74,21 +74,26 @@ contents-part img i h l =
     rw (contents-joined img 33 1, joined-part 508 (content-of img) 33 1 i (λ p m. content-of-length img p h (omega arith)) l)
     (ap (content-of img) (omega arith))
 
+pub contents-length : (img : List ℕ) → length img ≡ image-size → length (contents-of img 33 1) ≡ 16764
+contents-length img h =
+    rw (contents-joined img 33 1) (joined-length 508 (content-of img) 33 1 (λ p m. content-of-length img p h (omega arith)))
+
+pub memory-length : (img : List ℕ) → length img ≡ image-size → length (memory-of img) ≡ 16384
+unfolding memory-of
+memory-length img h = length-take-le 16384 (contents-of img 33 1) (omega (arith, contents-length img h))
+
 -- what a block carries of the memory lies behind its number
 pub memory-part :
-    (img : List ℕ) (i : ℕ) → length img ≡ image-size → i < 33
-    → take 508 (drop (508 * i) (memory-of img)) ≡ take (min (508 * (i + 1)) 16384 - 508 * i) (drop (512 * i + 514) img)
+    (img : List ℕ) (i k : ℕ) → length img ≡ image-size → i < 33 → k ≤ 508 → 508 * i + k ≤ 16384
+    → take k (drop (508 * i) (memory-of img)) ≡ take k (drop (512 * i + 514) img)
 unfolding memory-of
-memory-part img i h l =
+memory-part img i k h l b f =
     let all = contents-of img 33 1 in
-    let k = min (508 * (i + 1)) 16384 - 508 * i in
-    let e : min 508 (16384 - 508 * i) ≡ k = omega arith in
-    ap (take 508) (drop-take (508 * i) 16384 all)
-    ∙ take-min 508 (16384 - 508 * i) (drop (508 * i) all)
-    ∙ ap (λ (n : ℕ). take n (drop (508 * i) all)) e
-    ∙ sym (take-take k 508 (drop (508 * i) all) (omega arith))
+    ap (take k) (drop-take (508 * i) 16384 all)
+    ∙ take-take k (16384 - 508 * i) (drop (508 * i) all) (omega arith)
+    ∙ sym (take-take k 508 (drop (508 * i) all) b)
     ∙ ap (take k) (contents-part img i h l ∙ content-lies img (i + 1))
-    ∙ take-take k 508 (drop (512 * (i + 1) + 2) img) (omega arith)
+    ∙ take-take k 508 (drop (512 * (i + 1) + 2) img) b
     ∙ rw (let e : 512 * (i + 1) + 2 ≡ 512 * i + 514 = omega arith in e)
 
 pub filler-lies : (img : List ℕ) → length img ≡ image-size → filler-of img ≡ take 480 (drop 30 img) ++ take 380 (drop 17026 img)

@@ -3,10 +3,11 @@ use Prim.Native.Nat.{ℕ, zero, suc, min, _+_, _-_, _*_, _/_, _%_, _<_, _≤_}
 use mathlib.Core.Path.{_≡_, refl, sym, ap, _∙_}
 use mathlib.Core.List.{List, [], _∷_, _++_, append-nil}
 use native.Mathlib.Omega.{arith}
+use native.Mathlib.Nat.{zero-add}
 use lib.ListN.{length, getD, take, drop, replicate, length-append, length-take, length-drop}
 use lib.Seq.{take-at, drop-at}
 use Rattle.machine.specs.declared.State.{State}
-use Rattle.image.specs.Image.{content, words-bytes, fields, word-bytes, checked, words-sum, block, blocks}
+use Rattle.image.specs.Image.{content, words-bytes, fields, word-bytes, checked, words-sum, block, blocks, image, image-size}
 use Rattle.image.specs.Blocks.{unchecked}
 use Rattle.image.proofs.Lists.{length-padded, joined, joined-length, joined-part}
 
@@ -24,3 +25,18 @@ unchecked-body s m i =
 pub block-length : (s : State) (m : List ℕ) (i : ℕ) → length (block s m i) ≡ 512
 unfolding block checked
 block-length s m i = simp (length-append, content-length)
+
+pub blocks-joined : (s : State) (m : List ℕ) (k i : ℕ) → blocks s m k i ≡ joined (block s m) k i
+unfolding blocks
+blocks-joined s m zero i = refl
+blocks-joined s m (suc k) i = ap (λ (l : List ℕ). block s m i ++ l) (blocks-joined s m k (i + 1))
+
+pub image-length : (s : State) (m : List ℕ) → length (image s m) ≡ image-size
+unfolding image
+image-length s m = rw (blocks-joined s m 34 0) (joined-length 512 (block s m) 34 0 (λ j l. block-length s m j))
+
+-- each block is found again
+pub image-block : (s : State) (m : List ℕ) (i : ℕ) → i < 34 → take 512 (drop (512 * i) (image s m)) ≡ block s m i
+unfolding image
+image-block s m i h =
+    rw (blocks-joined s m 34 0, joined-part 512 (block s m) 34 0 i (λ j l. block-length s m j) h, zero-add i)

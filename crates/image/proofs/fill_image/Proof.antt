@@ -1,3 +1,15 @@
+-- `fill_image` meets its contract: the buffer holds the image's first `i` blocks.
+use Prim.Native.Nat.{ℕ, _+_, _-_, _*_, _≤_, _<_}
+use mathlib.Core.Path.{_≡_, refl, sym, ap, _∙_}
+use mathlib.Core.List.{List, _++_, append-nil}
+use native.Mathlib.Omega.{arith}
+use borrow.Author.Needs.{needs}
+use lib.ListN.{length, take, drop, drop-of-length-le}
+use lib.Seq.{take-all}
+use Rattle.image.specs.Image as Image
+use Rattle.image.specs.Image.{image-size}
+use Rattle.image.proofs.Lists.{grown, grown-length}
+use Rattle.image.proofs.Written.{image-block, image-length}
 use Rattle.image.proofs.fill_image.Statement.{statement}
 use Rattle.image.proofs.fill_image.Tie as tie
 use Rattle.image.proofs.fill_image.Reads as reads
@@ -6,66 +18,73 @@ use Rattle.bytes.proofs.copy.Reads as copy-reads
 use Rattle.image.proofs.blocks.block.Reads as block-reads
 
 abbrev Inv-loop : tie.InvT-loop
-Inv-loop state lent image₀ i₀ image i = ?
+Inv-loop state lent image₀ i₀ image i =
+    (i ≤ 34) × (length image ≡ image-size) × (image ≡ take (512 * i) (Image.image state lent) ++ drop (512 * i) image₀)
 
 abbrev μ-loop : tie.MeasureT-loop
-μ-loop state lent image₀ i₀ image i = ?
+μ-loop state lent image₀ i₀ image i = 34 - i
 
--- src/lib.rt:174:5
 loop-holds : tie.Need-loop-holds Inv-loop μ-loop
-loop-holds c = ?
+loop-holds c = (omega arith, omega arith, refl)
 
--- src/lib.rt:175:21
 block-requires : tie.Need-block-requires Inv-loop μ-loop
-block-requires c κs = ?
+block-requires c κs = search needs
 
--- src/lib.rt:176:20
 mul-from : tie.Need-mul-from Inv-loop μ-loop
-mul-from c = ?
+mul-from c = omega arith
 
--- src/lib.rt:177:18
 add-to : tie.Need-add-to Inv-loop μ-loop
-add-to c = ?
+add-to c = omega arith
 
--- src/lib.rt:178:21
 slice-aggregate-copy : tie.Need-slice-aggregate-copy Inv-loop μ-loop
-slice-aggregate-copy c = ?
+slice-aggregate-copy c = search needs
 
--- src/lib.rt:178:29
 sub-copy : tie.Need-sub-copy Inv-loop μ-loop
-sub-copy c = ?
+sub-copy c = omega arith
 
--- src/lib.rt:178:29
 part-copy-start : tie.Need-part-copy-start Inv-loop μ-loop
-part-copy-start c = ?
+part-copy-start c = omega arith
 
--- src/lib.rt:178:29
 part-copy-end : tie.Need-part-copy-end Inv-loop μ-loop
-part-copy-end c = ?
+part-copy-end c = omega arith
 
--- src/lib.rt:178:9
 copy-requires : tie.Need-copy-requires Inv-loop μ-loop
-copy-requires c κs = ?
+copy-requires c κs = search needs
 
--- src/lib.rt:179:9
 add-i : tie.Need-add-i Inv-loop μ-loop
-add-i c = ?
+add-i c = omega arith
 
--- src/lib.rt:174:5
 loop-less : tie.Need-loop-less Inv-loop μ-loop
-loop-less c = ?
+loop-less c = omega arith
 
--- src/lib.rt:174:5
 loop-again : tie.Need-loop-again Inv-loop μ-loop
-loop-again c = ?
+loop-again c =
+    let k = c .before .before .before .before .before in
+    let l = k .before .before in
+    let a = l .before .before .before .args in
+    let i : ℕ = l .loop .i in
+    let all : List ℕ = Image.image (a .state) (a .lent .now) in
+    let part : k .block .result ≡ take (512 * i + 512 - 512 * i) (drop (512 * i) all) =
+        k .block .ensures
+        ∙ rw (let e : 512 * i + 512 - 512 * i ≡ 512 = omega arith in e) (sym (image-block (a .state) (a .lent .now) i (omega arith))) in
+    let same : length all ≡ length (a .image .now) = omega (arith, image-length (a .state) (a .lent .now)) in
+    let copied = grown all (a .image .now) (l .loop .image) _ _ (512 * i) (512 * i + 512) same (omega arith) (omega arith) (l .loop .inv .2) part (c .before .before .copy .ensures .1) in
+    (omega arith,
+    ap length copied ∙ grown-length all (a .image .now) (512 * i + 512) same ∙ omega arith,
+    rw (let e : 512 * (i + 1) ≡ 512 * i + 512 = omega arith in e) copied)
 
--- src/lib.rt:168:1
 same-length : tie.Need-same-length Inv-loop μ-loop
-same-length c = ?
+same-length c = omega arith
 
--- src/lib.rt:168:1
 returns : tie.Need-returns Inv-loop μ-loop
-returns c = ?
+returns c =
+    let a = c .before .before .before .before .args in
+    let all : List ℕ = Image.image (a .state) (a .lent .now) in
+    let long = image-length (a .state) (a .lent .now) in
+    c .before .loop .inv .2
+    ∙ rw (let e : 512 * c .before .loop .i ≡ 17408 = omega arith in e,
+        take-all 17408 all (omega arith),
+        drop-of-length-le (a .image .now) {i = 17408} (omega arith)) (append-nil all)
 
 pub fill-image-spec : {M : Type 1} → statement M
 fill-image-spec =
