@@ -1,3 +1,6 @@
+-- `read_fault` meets its contract: the tests are the definition's, in its order.
+use Rattle.image.specs.Calls.{read-fault}
+use borrow.Author.Tests.{eq-eqb, ne-eqb}
 use borrow.Author.Needs.{needs}
 use Rattle.image.proofs.read_fault.Statement.{statement}
 use Rattle.image.proofs.read_fault.Tie as tie
@@ -6,29 +9,36 @@ use Rattle.image.proofs.read_fault.Lts as lts
 use Rattle.image.proofs.content_fault.Reads as content-fault-reads
 use Rattle.image.proofs.first_fault.Reads as first-fault-reads
 
--- src/lib.rt:90:9
 returns : tie.Need-returns
-returns c = ?
+unfolding read-fault
+returns c = rw (ne-eqb _ _ (c .if1 .taken))
 
--- src/lib.rt:96:9
 returns-2 : tie.Need-returns-2
-returns-2 c = ?
+unfolding read-fault
+returns-2 c = rw (eq-eqb _ _ (c .before .if1 .left), ne-eqb _ _ (c .if2 .taken))
 
--- src/lib.rt:101:9
 first-fault-requires : tie.Need-first-fault-requires
 first-fault-requires c κs = search needs
 
--- src/lib.rt:103:9
 returns-3 : tie.Need-returns-3
-returns-3 c = ?
+unfolding read-fault
+returns-3 c =
+    rw (eq-eqb _ _ (c .before .before .before .before .if1 .left),
+        eq-eqb _ _ (c .before .before .before .if2 .left),
+        ← c .before .before .first-fault .ensures,
+        ne-eqb _ _ (c .if3 .taken))
 
--- src/lib.rt:106:17
 content-fault-requires : tie.Need-content-fault-requires
 content-fault-requires c κs = search needs
 
--- src/lib.rt:86:1
 returns-4 : tie.Need-returns-4
-returns-4 c = ?
+unfolding read-fault
+returns-4 c =
+    rw (eq-eqb _ _ (c .before .before .before .before .before .if1 .left),
+        eq-eqb _ _ (c .before .before .before .before .if2 .left),
+        ← c .before .before .before .first-fault .ensures,
+        eq-eqb _ _ (c .before .if3 .left),
+        ← c .content-fault .ensures)
 
 pub read-fault-spec : {M : Type 1} → statement M
 read-fault-spec =

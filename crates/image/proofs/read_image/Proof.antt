@@ -1,3 +1,8 @@
+-- `read_image` meets its contract: a refusal gives back what it was given, and an accepted image its state and its memory.
+use mathlib.Core.Path.{_≡_, sym, ap, _∙_}
+use Rattle.image.specs.Calls.{Fault, read}
+use Rattle.image.proofs.Accepted.{accepted}
+use borrow.Author.Tests.{eq-eqb, ne-eqb}
 use borrow.Author.Needs.{needs}
 use Rattle.image.proofs.read_image.Statement.{statement}
 use Rattle.image.proofs.read_image.Tie as tie
@@ -8,37 +13,45 @@ use Rattle.image.proofs.fill_memory.Reads as fill-memory-reads
 use Rattle.image.proofs.read_fault.Reads as read-fault-reads
 use Rattle.machine.proofs.State.blank.Reads as blank-reads
 
--- src/lib.rt:133:9
 read-fault-requires : tie.Need-read-fault-requires
 read-fault-requires c κs = search needs
 
--- src/lib.rt:135:13
 blank-requires : tie.Need-blank-requires
 blank-requires c κs = search needs
 
--- src/lib.rt:136:9
 same-length : tie.Need-same-length
 same-length c = search needs
 
--- src/lib.rt:136:9
 returns : tie.Need-returns
-returns c = ?
+unfolding read
+returns c =
+    let f = c .before .before .before in
+    (rw (← f .read-fault .ensures, ne-eqb _ _ (c .before .if1 .taken), c .blank .ensures),
+    rw (← f .read-fault .ensures, ne-eqb _ _ (c .before .if1 .taken)))
 
--- src/lib.rt:142:5
 fill-memory-requires : tie.Need-fill-memory-requires
-fill-memory-requires c κs = ?
+fill-memory-requires c κs =
+    let f = c .before .before .before in
+    let a = f .before .before .before .before .args in
+    let known = accepted (a .image .now) (a .bytes .now) (ap (λ (f : Fault). f .number) (sym (f .read-fault .ensures)) ∙ c .before .if1 .left) in
+    (known .image-sized, known .memory-sized)
 
--- src/lib.rt:143:9
 state-of-requires : tie.Need-state-of-requires
-state-of-requires c κs = ?
+state-of-requires c κs =
+    let f = c .before .before .before .before .before .before in
+    let a = f .before .before .before .before .args in
+    accepted (a .image .now) (a .bytes .now) (ap (λ (f : Fault). f .number) (sym (f .read-fault .ensures)) ∙ c .before .before .before .before .if1 .left) .image-sized
 
--- src/lib.rt:129:1
 same-length-2 : tie.Need-same-length-2
 same-length-2 c = search needs
 
--- src/lib.rt:129:1
 returns-2 : tie.Need-returns-2
-returns-2 c = ?
+unfolding read
+returns-2 c =
+    let t = c .before .before .before .before .before in
+    let f = t .before .before in
+    (rw (← f .read-fault .ensures, eq-eqb _ _ (t .if1 .left), c .state-of .ensures),
+    rw (← f .read-fault .ensures, eq-eqb _ _ (t .if1 .left)) (c .before .before .before .fill-memory .ensures))
 
 pub read-image-spec : {M : Type 1} → statement M
 read-image-spec =

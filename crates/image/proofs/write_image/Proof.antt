@@ -1,3 +1,8 @@
+-- `write_image` meets its contract: a refusal leaves the buffer, and otherwise it is filled.
+use mathlib.Core.Path.{_≡_, sym, _∙_}
+use Rattle.image.specs.Calls.{write}
+use Rattle.image.proofs.Accepted.{writable}
+use borrow.Author.Tests.{eq-eqb, ne-eqb}
 use borrow.Author.Needs.{needs}
 use Rattle.image.proofs.write_image.Statement.{statement}
 use Rattle.image.proofs.write_image.Tie as tie
@@ -6,29 +11,34 @@ use Rattle.image.proofs.write_image.Lts as lts
 use Rattle.image.proofs.fill_image.Reads as fill-image-reads
 use Rattle.image.proofs.write_fault.Reads as write-fault-reads
 
--- src/lib.rt:188:9
 write-fault-requires : tie.Need-write-fault-requires
 write-fault-requires c κs = search needs
 
--- src/lib.rt:190:9
 same-length : tie.Need-same-length
 same-length c = search needs
 
--- src/lib.rt:190:9
 returns : tie.Need-returns
-returns c = ?
+unfolding write
+returns c =
+    (rw (c .before .write-fault .ensures),
+    rw (← c .before .write-fault .ensures, ne-eqb _ _ (c .if1 .taken)))
 
--- src/lib.rt:192:5
 fill-image-requires : tie.Need-fill-image-requires
-fill-image-requires c κs = ?
+fill-image-requires c κs =
+    let f = c .before .before in
+    let a = f .before .before .before .before .args in
+    let known = writable (a .state) (a .bytes .now) (a .image .now) (sym (f .write-fault .ensures) ∙ c .before .if1 .left) in
+    (known .memory-sized, known .image-sized)
 
--- src/lib.rt:184:1
 same-length-2 : tie.Need-same-length-2
 same-length-2 c = search needs
 
--- src/lib.rt:184:1
 returns-2 : tie.Need-returns-2
-returns-2 c = ?
+unfolding write
+returns-2 c =
+    let t = c .before .before .before .before in
+    (rw (← t .before .write-fault .ensures, t .if1 .left),
+    rw (← t .before .write-fault .ensures, eq-eqb _ _ (t .if1 .left)) (c .before .before .fill-image .ensures))
 
 pub write-image-spec : {M : Type 1} → statement M
 write-image-spec =
