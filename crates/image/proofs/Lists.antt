@@ -135,12 +135,12 @@ grown all old l p q from to same order fits so-far part copied =
     let before : take from l ≡ take from all = ap (take from) so-far ∙ take-at (take from all) (drop from old) from front in
     let after : drop from l ≡ drop from old = ap (drop from) so-far ∙ drop-at (take from all) (drop from old) from front in
     let long : length p ≡ to - from =
-        rw part (length-take-le (to - from) (drop from all) (rw (length-drop from all) (omega arith))) in
+    rw part (length-take-le (to - from) (drop from all) (rw (length-drop from all) (omega arith))) in
     let none : drop (length p) (take (to - from) (drop from l)) ≡ [] =
-        drop-of-length-le (take (to - from) (drop from l)) {i = length p} (rw (long, length-take (to - from) (drop from l)) (omega arith)) in
+    drop-of-length-le (take (to - from) (drop from l)) {i = length p} (rw (long, length-take (to - from) (drop from l)) (omega arith)) in
     let whole : q ≡ p = copied ∙ rw (none, take-length p) (append-nil p) in
     let rest : drop (to - from) (drop from l) ≡ drop to old =
-        rw (after, drop-drop (to - from) from old, let e : from + (to - from) ≡ to = omega arith in e) in
+    rw (after, drop-drop (to - from) from old, let e : from + (to - from) ≡ to = omega arith in e) in
     rw (before, whole, rest, ← append-assoc (take from all) p (drop to old), part, ← take-add from (to - from) all, let e : from + (to - from) ≡ to = omega arith in e)
 
 pub grown-length : (all old : List ℕ) (n : ℕ) → length all ≡ length old → length (take n all ++ drop n old) ≡ length old

@@ -25,10 +25,12 @@ field-requires-2 c κs = search needs
 returns-2 : tie.Need-returns-2
 unfolding content-fault
 returns-2 c =
-    rw (← c .before .before .before .field .ensures,
-        eq-eqb _ _ (c .before .before .if1 .left),
-        ← c .before .field2 .ensures,
-        ne-eqb _ _ (c .if2 .taken))
+    rw (
+      ← c .before .before .before .field .ensures,
+      eq-eqb _ _ (c .before .before .if1 .left),
+      ← c .before .field2 .ensures,
+      ne-eqb _ _ (c .if2 .taken),
+    )
 
 state-of-requires : tie.Need-state-of-requires
 state-of-requires c κs = search needs
@@ -39,13 +41,15 @@ well-formed-requires c κs = search needs
 returns-3 : tie.Need-returns-3
 unfolding content-fault
 returns-3 c =
-    rw (← c .before .before .before .before .before .before .field .ensures,
-        eq-eqb _ _ (c .before .before .before .before .before .if1 .left),
-        ← c .before .before .before .before .field2 .ensures,
-        eq-eqb _ _ (c .before .before .before .if2 .left),
-        ← c .before .before .state-of .ensures,
-        ← c .before .well-formed .ensures,
-        not-true (c .before .well-formed .result) (c .if3 .taken))
+    rw (
+      ← c .before .before .before .before .before .before .field .ensures,
+      eq-eqb _ _ (c .before .before .before .before .before .if1 .left),
+      ← c .before .before .before .before .field2 .ensures,
+      eq-eqb _ _ (c .before .before .before .if2 .left),
+      ← c .before .before .state-of .ensures,
+      ← c .before .well-formed .ensures,
+      not-true (c .before .well-formed .result) (c .if3 .taken),
+    )
 
 filler-clear-requires : tie.Need-filler-clear-requires
 filler-clear-requires c κs = search needs
@@ -53,28 +57,32 @@ filler-clear-requires c κs = search needs
 returns-4 : tie.Need-returns-4
 unfolding content-fault
 returns-4 c =
-    rw (← c .before .before .before .before .before .before .before .before .field .ensures,
-        eq-eqb _ _ (c .before .before .before .before .before .before .before .if1 .left),
-        ← c .before .before .before .before .before .before .field2 .ensures,
-        eq-eqb _ _ (c .before .before .before .before .before .if2 .left),
-        ← c .before .before .before .before .state-of .ensures,
-        ← c .before .before .before .well-formed .ensures,
-        not-false (c .before .before .before .well-formed .result) (c .before .before .if3 .left),
-        ← c .before .filler-clear .ensures,
-        not-true (c .before .filler-clear .result) (c .if4 .taken))
+    rw (
+      ← c .before .before .before .before .before .before .before .before .field .ensures,
+      eq-eqb _ _ (c .before .before .before .before .before .before .before .if1 .left),
+      ← c .before .before .before .before .before .before .field2 .ensures,
+      eq-eqb _ _ (c .before .before .before .before .before .if2 .left),
+      ← c .before .before .before .before .state-of .ensures,
+      ← c .before .before .before .well-formed .ensures,
+      not-false (c .before .before .before .well-formed .result) (c .before .before .if3 .left),
+      ← c .before .filler-clear .ensures,
+      not-true (c .before .filler-clear .result) (c .if4 .taken),
+    )
 
 returns-5 : tie.Need-returns-5
 unfolding content-fault
 returns-5 c =
-    rw (← c .before .before .before .before .before .before .before .before .field .ensures,
-        eq-eqb _ _ (c .before .before .before .before .before .before .before .if1 .left),
-        ← c .before .before .before .before .before .before .field2 .ensures,
-        eq-eqb _ _ (c .before .before .before .before .before .if2 .left),
-        ← c .before .before .before .before .state-of .ensures,
-        ← c .before .before .before .well-formed .ensures,
-        not-false (c .before .before .before .well-formed .result) (c .before .before .if3 .left),
-        ← c .before .filler-clear .ensures,
-        not-false (c .before .filler-clear .result) (c .if4 .left))
+    rw (
+      ← c .before .before .before .before .before .before .before .before .field .ensures,
+      eq-eqb _ _ (c .before .before .before .before .before .before .before .if1 .left),
+      ← c .before .before .before .before .before .before .field2 .ensures,
+      eq-eqb _ _ (c .before .before .before .before .before .if2 .left),
+      ← c .before .before .before .before .state-of .ensures,
+      ← c .before .before .before .well-formed .ensures,
+      not-false (c .before .before .before .well-formed .result) (c .before .before .if3 .left),
+      ← c .before .filler-clear .ensures,
+      not-false (c .before .filler-clear .result) (c .if4 .left),
+    )
 
 pub content-fault-spec : {M : Type 1} → statement M
 content-fault-spec =

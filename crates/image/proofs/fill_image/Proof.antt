@@ -65,13 +65,14 @@ loop-again c =
     let i : ℕ = l .loop .i in
     let all : List ℕ = Image.image (a .state) (a .lent .now) in
     let part : k .block .result ≡ take (512 * i + 512 - 512 * i) (drop (512 * i) all) =
-        k .block .ensures
-        ∙ rw (let e : 512 * i + 512 - 512 * i ≡ 512 = omega arith in e) (sym (image-block (a .state) (a .lent .now) i (omega arith))) in
+    k .block .ensures
+    ∙ rw (let e : 512 * i + 512 - 512 * i ≡ 512 = omega arith in e) (sym (image-block (a .state) (a .lent .now) i (omega arith))) in
     let same : length all ≡ length (a .image .now) = omega (arith, image-length (a .state) (a .lent .now)) in
-    let copied = grown all (a .image .now) (l .loop .image) _ _ (512 * i) (512 * i + 512) same (omega arith) (omega arith) (l .loop .inv .2) part (c .before .before .copy .ensures .1) in
-    (omega arith,
-    ap length copied ∙ grown-length all (a .image .now) (512 * i + 512) same ∙ omega arith,
-    rw (let e : 512 * (i + 1) ≡ 512 * i + 512 = omega arith in e) copied)
+    let copied = grown all (a .image .now) (l .loop .image) _ _ (512 * i) (512 * i + 512) same (omega arith) (omega arith) (l .loop .inv .2) part (c .before .before .copy .ensures .1) in (
+      omega arith,
+      ap length copied ∙ grown-length all (a .image .now) (512 * i + 512) same ∙ omega arith,
+      rw (let e : 512 * (i + 1) ≡ 512 * i + 512 = omega arith in e) copied,
+    )
 
 same-length : tie.Need-same-length Inv-loop μ-loop
 same-length c = omega arith
@@ -82,9 +83,11 @@ returns c =
     let all : List ℕ = Image.image (a .state) (a .lent .now) in
     let long = image-length (a .state) (a .lent .now) in
     c .before .loop .inv .2
-    ∙ rw (let e : 512 * c .before .loop .i ≡ 17408 = omega arith in e,
-        take-all 17408 all (omega arith),
-        drop-of-length-le (a .image .now) {i = 17408} (omega arith)) (append-nil all)
+    ∙ rw (
+      let e : 512 * c .before .loop .i ≡ 17408 = omega arith in e,
+      take-all 17408 all (omega arith),
+      drop-of-length-le (a .image .now) {i = 17408} (omega arith),
+    ) (append-nil all)
 
 pub fill-image-spec : {M : Type 1} → statement M
 fill-image-spec =

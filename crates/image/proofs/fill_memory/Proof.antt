@@ -83,14 +83,15 @@ loop-again c =
     let i : ℕ = l .loop .i in
     let to : ℕ = k .carried .result in
     let part : take (512 * i + 514 + (to - 508 * i) - (512 * i + 514)) (drop (512 * i + 514) (a .image .now)) ≡ take (to - 508 * i) (drop (508 * i) (memory-of (a .image .now))) =
-        rw (let e : 512 * i + 514 + (to - 508 * i) - (512 * i + 514) ≡ to - 508 * i = omega arith in e)
-        (sym (memory-part (a .image .now) i (to - 508 * i) (omega arith) (omega arith) (omega arith) (omega arith))) in
+    rw (let e : 512 * i + 514 + (to - 508 * i) - (512 * i + 514) ≡ to - 508 * i = omega arith in e)
+    (sym (memory-part (a .image .now) i (to - 508 * i) (omega arith) (omega arith) (omega arith) (omega arith))) in
     let same : length (memory-of (a .image .now)) ≡ length (a .lent .now) = omega (arith, memory-length (a .image .now) (omega arith)) in
     let so-far = rw (let e : min (508 * i) 16384 ≡ 508 * i = omega arith in e) at (l .loop .inv .2) in
-    let copied = grown (memory-of (a .image .now)) (a .lent .now) (l .loop .lent) _ _ (508 * i) to same (omega arith) (omega arith) so-far part (c .before .before .copy .ensures .1) in
-    (omega arith,
-    ap length copied ∙ grown-length (memory-of (a .image .now)) (a .lent .now) to same ∙ omega arith,
-    rw (← k .carried .ensures) copied)
+    let copied = grown (memory-of (a .image .now)) (a .lent .now) (l .loop .lent) _ _ (508 * i) to same (omega arith) (omega arith) so-far part (c .before .before .copy .ensures .1) in (
+      omega arith,
+      ap length copied ∙ grown-length (memory-of (a .image .now)) (a .lent .now) to same ∙ omega arith,
+      rw (← k .carried .ensures) copied,
+    )
 
 same-length : tie.Need-same-length Inv-loop μ-loop
 same-length c = omega arith
@@ -101,9 +102,11 @@ returns c =
     let all : List ℕ = memory-of (a .image .now) in
     let long = memory-length (a .image .now) (omega arith) in
     c .before .loop .inv .2
-    ∙ rw (let e : min (508 * c .before .loop .i) 16384 ≡ 16384 = omega arith in e,
-        take-all 16384 all (omega arith),
-        drop-of-length-le (a .lent .now) {i = 16384} (omega arith)) (append-nil all)
+    ∙ rw (
+      let e : min (508 * c .before .loop .i) 16384 ≡ 16384 = omega arith in e,
+      take-all 16384 all (omega arith),
+      drop-of-length-le (a .lent .now) {i = 16384} (omega arith),
+    ) (append-nil all)
 
 pub fill-memory-spec : {M : Type 1} → statement M
 fill-memory-spec =

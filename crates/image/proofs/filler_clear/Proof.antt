@@ -44,10 +44,12 @@ zeros-requires-2 c κs = search needs
 returns-2 : tie.Need-returns-2
 returns-2 c =
     let img = c .before .before .before .before .before .before .args .image .now in
-    rw (filler-lies img (omega arith),
-        zeros-append (take 480 (drop 30 img)) (take 380 (drop 17026 img)),
-        ← c .before .before .before .zeros .ensures,
-        not-false (c .before .before .before .zeros .result) (c .before .before .if1 .left))
+    rw (
+      filler-lies img (omega arith),
+      zeros-append (take 480 (drop 30 img)) (take 380 (drop 17026 img)),
+      ← c .before .before .before .zeros .ensures,
+      not-false (c .before .before .before .zeros .result) (c .before .before .if1 .left),
+    )
     (c .zeros2 .ensures)
 
 pub filler-clear-spec : {M : Type 1} → statement M

@@ -53,10 +53,11 @@ loop-less c = omega arith
 loop-again : tie.Need-loop-again Inv-loop μ-loop
 loop-again c =
     let l = c .before .before .before in
-    let img = l .before .before .args .image .now in
-    (omega arith,
-    l .loop .inv .1 ∙ next img (l .loop .i) (omega arith)
-    ∙ rw (← c .before .block-fault .ensures, eq-eqb (c .before .block-fault .result) 0 (c .if1 .left)))
+    let img = l .before .before .args .image .now in (
+      omega arith,
+      l .loop .inv .1 ∙ next img (l .loop .i) (omega arith)
+          ∙ rw (← c .before .block-fault .ensures, eq-eqb (c .before .block-fault .result) 0 (c .if1 .left)),
+    )
 
 returns-2 : tie.Need-returns-2 Inv-loop μ-loop
 unfolding first-fault

@@ -23,10 +23,12 @@ first-fault-requires c κs = search needs
 returns-3 : tie.Need-returns-3
 unfolding read-fault
 returns-3 c =
-    rw (eq-eqb _ _ (c .before .before .before .before .if1 .left),
-        eq-eqb _ _ (c .before .before .before .if2 .left),
-        ← c .before .before .first-fault .ensures,
-        ne-eqb _ _ (c .if3 .taken))
+    rw (
+      eq-eqb _ _ (c .before .before .before .before .if1 .left),
+      eq-eqb _ _ (c .before .before .before .if2 .left),
+      ← c .before .before .first-fault .ensures,
+      ne-eqb _ _ (c .if3 .taken),
+    )
 
 content-fault-requires : tie.Need-content-fault-requires
 content-fault-requires c κs = search needs
@@ -34,11 +36,13 @@ content-fault-requires c κs = search needs
 returns-4 : tie.Need-returns-4
 unfolding read-fault
 returns-4 c =
-    rw (eq-eqb _ _ (c .before .before .before .before .before .if1 .left),
-        eq-eqb _ _ (c .before .before .before .before .if2 .left),
-        ← c .before .before .before .first-fault .ensures,
-        eq-eqb _ _ (c .before .if3 .left),
-        ← c .content-fault .ensures)
+    rw (
+      eq-eqb _ _ (c .before .before .before .before .before .if1 .left),
+      eq-eqb _ _ (c .before .before .before .before .if2 .left),
+      ← c .before .before .before .first-fault .ensures,
+      eq-eqb _ _ (c .before .if3 .left),
+      ← c .content-fault .ensures,
+    )
 
 pub read-fault-spec : {M : Type 1} → statement M
 read-fault-spec =

@@ -25,9 +25,10 @@ same-length c = search needs
 returns : tie.Need-returns
 unfolding read
 returns c =
-    let f = c .before .before .before in
-    (rw (← f .read-fault .ensures, ne-eqb _ _ (c .before .if1 .taken), c .blank .ensures),
-    rw (← f .read-fault .ensures, ne-eqb _ _ (c .before .if1 .taken)))
+    let f = c .before .before .before in (
+      rw (← f .read-fault .ensures, ne-eqb _ _ (c .before .if1 .taken), c .blank .ensures),
+      rw (← f .read-fault .ensures, ne-eqb _ _ (c .before .if1 .taken)),
+    )
 
 fill-memory-requires : tie.Need-fill-memory-requires
 fill-memory-requires c κs =
@@ -49,9 +50,10 @@ returns-2 : tie.Need-returns-2
 unfolding read
 returns-2 c =
     let t = c .before .before .before .before .before in
-    let f = t .before .before in
-    (rw (← f .read-fault .ensures, eq-eqb _ _ (t .if1 .left), c .state-of .ensures),
-    rw (← f .read-fault .ensures, eq-eqb _ _ (t .if1 .left)) (c .before .before .before .fill-memory .ensures))
+    let f = t .before .before in (
+      rw (← f .read-fault .ensures, eq-eqb _ _ (t .if1 .left), c .state-of .ensures),
+      rw (← f .read-fault .ensures, eq-eqb _ _ (t .if1 .left)) (c .before .before .before .fill-memory .ensures),
+    )
 
 pub read-image-spec : {M : Type 1} → statement M
 read-image-spec =

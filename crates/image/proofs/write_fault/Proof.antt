@@ -22,18 +22,22 @@ well-formed-requires c κs = search needs
 returns-3 : tie.Need-returns-3
 unfolding write-fault
 returns-3 c =
-    rw (eq-eqb _ _ (c .before .before .before .if1 .left),
-        eq-eqb _ _ (c .before .before .if2 .left),
-        ← c .before .well-formed .ensures,
-        not-true (c .before .well-formed .result) (c .if3 .taken))
+    rw (
+      eq-eqb _ _ (c .before .before .before .if1 .left),
+      eq-eqb _ _ (c .before .before .if2 .left),
+      ← c .before .well-formed .ensures,
+      not-true (c .before .well-formed .result) (c .if3 .taken),
+    )
 
 returns-4 : tie.Need-returns-4
 unfolding write-fault
 returns-4 c =
-    rw (eq-eqb _ _ (c .before .before .before .if1 .left),
-        eq-eqb _ _ (c .before .before .if2 .left),
-        ← c .before .well-formed .ensures,
-        not-false (c .before .well-formed .result) (c .if3 .left))
+    rw (
+      eq-eqb _ _ (c .before .before .before .if1 .left),
+      eq-eqb _ _ (c .before .before .if2 .left),
+      ← c .before .well-formed .ensures,
+      not-false (c .before .well-formed .result) (c .if3 .left),
+    )
 
 pub write-fault-spec : {M : Type 1} → statement M
 write-fault-spec = tie.close (tie.spec returns returns-2 well-formed-requires returns-3 returns-4)

@@ -19,9 +19,10 @@ same-length c = search needs
 
 returns : tie.Need-returns
 unfolding write
-returns c =
-    (rw (c .before .write-fault .ensures),
-    rw (← c .before .write-fault .ensures, ne-eqb _ _ (c .if1 .taken)))
+returns c = (
+  rw (c .before .write-fault .ensures),
+  rw (← c .before .write-fault .ensures, ne-eqb _ _ (c .if1 .taken)),
+)
 
 fill-image-requires : tie.Need-fill-image-requires
 fill-image-requires c κs =
@@ -36,9 +37,10 @@ same-length-2 c = search needs
 returns-2 : tie.Need-returns-2
 unfolding write
 returns-2 c =
-    let t = c .before .before .before .before in
-    (rw (← t .before .write-fault .ensures, t .if1 .left),
-    rw (← t .before .write-fault .ensures, eq-eqb _ _ (t .if1 .left)) (c .before .before .fill-image .ensures))
+    let t = c .before .before .before .before in (
+      rw (← t .before .write-fault .ensures, t .if1 .left),
+      rw (← t .before .write-fault .ensures, eq-eqb _ _ (t .if1 .left)) (c .before .before .fill-image .ensures),
+    )
 
 pub write-image-spec : {M : Type 1} → statement M
 write-image-spec =
