@@ -3,3 +3,5 @@ pub mod Words
 pub mod Parts
 pub mod Written
 pub mod Accepted
+pub mod Read
+pub mod Claims
