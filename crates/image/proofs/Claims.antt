@@ -1,10 +1,9 @@
 -- The claims: what is written is read back, what is read is written back, and a read's number is the table's.
-use Prim.Native.Nat.{ℕ, zero, _<_}
-use mathlib.Core.Path.{_≡_, refl, sym, ap, _∙_}
+use Prim.Native.Nat.{ℕ, _<_}
+use mathlib.Core.Path.{_≡_, refl, sym, _∙_}
 use mathlib.Core.Bool.{Bool, true, false}
 use mathlib.Core.List.{List}
 use native.Mathlib.Nat.{zero-add}
-use native.Mathlib.Omega.{arith}
 use borrow.Author.Tests.{eq-eqb, eqb-true}
 use lib.ListN.{length}
 use lib.Dec.{eqb}
@@ -50,6 +49,8 @@ writes-what-was-read img m buffer bytes zero-read b =
     let a : Accepted img m = accepted img m none in
     let k : Sound img = sound img (a .content-right) in
     let each : (i : ℕ) → i < 34 → Right img i = λ i l. right img i (rw (zero-add i) at (each-right img 34 0 i (a .blocks-right) l)) in
-    rw (reads img m none,
-        writes (Image.state-of img) (Image.memory-of img) buffer (k .formed) (memory-length img (a .image-sized)) b,
-        image-back img (a .image-sized) bytes k each)
+    rw (
+      reads img m none,
+      writes (Image.state-of img) (Image.memory-of img) buffer (k .formed) (memory-length img (a .image-sized)) b,
+      image-back img (a .image-sized) bytes k each,
+    )

@@ -7,7 +7,7 @@ use native.Mathlib.Omega.{arith}
 use native.Mathlib.Nat.{add-zero, mul-zero}
 use lib.ListN.{length, getD, take, drop, replicate, length-append, length-take, length-drop, length-replicate, drop-of-length-le}
 use borrow.Rule.Slice.PartMut.{putMid}
-use lib.Seq.{length-take-le, take-length, take-nil, take-all, take-take, take-add, drop-drop, take-at, drop-at, take-append-add, drop-append-add, getD-append-add, getD-take, getD-drop, ext-getD}
+use lib.Seq.{length-take-le, take-length, take-nil, take-all, take-add, drop-drop, take-at, drop-at, drop-append-add, getD-take, getD-drop, ext-getD}
 use Rattle.image.specs.Image.{padded}
 
 pub drop-take : (a n : ℕ) (l : List ℕ) → drop a (take n l) ≡ take (n - a) (drop a l)

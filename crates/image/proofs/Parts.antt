@@ -6,7 +6,7 @@ use mathlib.Core.List.{List, [], _∷_, _++_, append-nil}
 use native.Mathlib.Omega.{arith}
 use native.Mathlib.Nat.{add-zero}
 use lib.ListN.{length, getD, take, drop, replicate, length-take, length-drop, drop-of-length-le}
-use lib.Seq.{length-take-le, take-take, take-length, drop-drop, take-all, getD-take, getD-drop, sets-eq, drop-append-add}
+use lib.Seq.{length-take-le, take-take, drop-drop, getD-take, getD-drop, sets-eq, drop-append-add}
 use lib.Dec.{eqb}
 use Rattle.image.specs.Image.{image-size, block-of, content-of, contents-of, memory-of, field-of, filler-of, zeros, word-at, word-bytes, padded}
 use Rattle.image.specs.Blocks.{put-word}

@@ -1,27 +1,23 @@
 -- What was read: a block in order is its number, its content and the one check word that fits, so the blocks that would be written of the
 -- state and the memory that were read are the image's own.
-use Prim.Native.Nat.{ℕ, zero, suc, _+_, _-_, _*_, _/_, _%_, _<_, _≤_}
+use Prim.Native.Nat.{ℕ, zero, suc, _+_, _-_, _*_, _%_, _<_, _≤_}
 use mathlib.Core.Path.{_≡_, refl, sym, ap, ap₂, _∙_}
-use mathlib.Core.Bool.{Bool, true, false, not, _&&_, true≢false}
-use mathlib.Core.List.{List, [], _∷_, _++_, append-assoc}
+use mathlib.Core.Bool.{true}
+use mathlib.Core.List.{List, [], _∷_, _++_}
 use native.Mathlib.Omega.{arith}
 use native.Mathlib.Numerals.{add-one}
-use native.Mathlib.Nat.{zero-add, add-zero}
-use borrow.Author.Tests.{eq-eqb, eqb-true}
+use borrow.Author.Tests.{eqb-true}
 use lib.Dec.{eqb}
-use lib.ListN.{length, getD, take, drop, replicate, length-append, length-take, length-drop, length-replicate, take-append-drop}
-use lib.Seq.{drop-cons, drop-length, take-at, drop-at, take-all, drop-drop, take-take, getD-take, length-take-le}
-use Rattle.memory.specs.Memory.{size, Bytes}
+use lib.ListN.{length, getD, take, drop, replicate, length-take, length-drop, take-append-drop}
+use lib.Seq.{take-all, drop-drop, length-take-le}
+use Rattle.memory.specs.Memory.{Bytes}
 use Rattle.machine.specs.declared.State.{State}
-use Rattle.machine.specs.State.{well-formed}
-use Rattle.psi.specs.declared.Psi.{Psi}
-use Rattle.image.specs.Image.{image-size, format, edition, content, words-bytes, fields, word-bytes, word-at, padded, checked, words-sum, zeros, block, blocks, image, block-of, content-of, contents-of, memory-of, field-of, state-of, filler-of}
-use Rattle.image.specs.Calls.{fault, block-fault, first-fault, content-fault}
-use Rattle.image.proofs.Lists.{length-padded, padded-part, drop-take, joined, joined-parts, joined-same}
-use Rattle.image.proofs.Words.{check-word, word-back, words-from, words-back}
+use Rattle.image.specs.Image.{image-size, format, edition, content, words-bytes, fields, word-bytes, word-at, padded, checked, words-sum, zeros, block, image, block-of, content-of, contents-of, memory-of, field-of, state-of, filler-of}
+use Rattle.image.proofs.Lists.{padded-part, joined-parts, joined-same}
+use Rattle.image.proofs.Words.{check-word, words-from, words-back}
 use Rattle.image.proofs.Parts.{block-at, content-at, content-of-length, contents-length, contents-part, memory-length, zeros-append}
 use Rattle.image.proofs.Written.{blocks-joined}
-use Rattle.image.proofs.Accepted.{both, Accepted, Right, right, each-right, Sound, sound}
+use Rattle.image.proofs.Accepted.{both, Right, right, Sound}
 
 -- zeros are all alike
 zeros-are : (l : List ℕ) → zeros l ≡ true → l ≡ replicate (length l) 0
@@ -37,7 +33,7 @@ unfolding padded
 zeros-after n k l h f z =
     let front : length (take k l) ≡ k = length-take-le k l (omega arith) in
     let rest : replicate (n - length (take k l)) 0 ≡ drop k l =
-        rw (let e : n - length (take k l) ≡ length (drop k l) = rw length-drop (omega arith) in e) (sym (zeros-are (drop k l) z)) in
+    rw (let e : n - length (take k l) ≡ length (drop k l) = rw length-drop (omega arith) in e) (sym (zeros-are (drop k l) z)) in
     ap (λ (r : List ℕ). take k l ++ r) rest ∙ take-append-drop k l
 
 module _ (img : List ℕ) (sized : length img ≡ image-size) (bytes : Bytes img) where
@@ -57,14 +53,14 @@ module _ (img : List ℕ) (sized : length img ≡ image-size) (bytes : Bytes img
       let byte : (j : ℕ) → j < length b → getD b j 0 < 256 = λ j m. block-byte i j (omega arith) in
       let first : take 2 b ≡ word-bytes i = sym (words-back b 1 0 byte (omega arith)) ∙ ap word-bytes (r .number) in
       let last : drop 508 (drop 2 b) ≡ word-bytes (word-at b 510) =
-          drop-drop 508 2 b ∙ sym (take-all 2 (drop 510 b) (rw length-drop (omega arith))) ∙ sym (words-back b 1 255 byte (omega arith)) in
+      drop-drop 508 2 b ∙ sym (take-all 2 (drop 510 b) (rw length-drop (omega arith))) ∙ sym (words-back b 1 255 byte (omega arith)) in
       let apart : b ≡ (word-bytes i ++ content-of img i) ++ word-bytes (word-at b 510) =
-          sym (take-append-drop 2 b) ∙ ap₂ _++_ first (sym (take-append-drop 508 (drop 2 b)) ∙ ap (λ (t : List ℕ). take 508 (drop 2 b) ++ t) last) in
+      sym (take-append-drop 2 b) ∙ ap₂ _++_ first (sym (take-append-drop 508 (drop 2 b)) ∙ ap (λ (t : List ℕ). take 508 (drop 2 b) ++ t) last) in
       apart
       ∙ check-word 255 (word-bytes i ++ content-of img i) (word-at b 510)
-        (ap (λ (n : ℕ). suc (suc n)) (content-of-length img i sized l))
-        (omega (arith, byte 510 (omega arith), byte 511 (omega arith)))
-        (sym (ap (λ (t : List ℕ). words-sum t % 65536) apart) ∙ r .sum)
+      (ap (λ (n : ℕ). suc (suc n)) (content-of-length img i sized l))
+      (omega (arith, byte 510 (omega arith), byte 511 (omega arith)))
+      (sym (ap (λ (t : List ℕ). words-sum t % 65536) apart) ∙ r .sum)
 
   -- the contents that would be written are those that were read
 
@@ -75,7 +71,7 @@ module _ (img : List ℕ) (sized : length img ≡ image-size) (bytes : Bytes img
       let long : length c ≡ 508 = content-of-length img 0 sized (omega arith) in
       let byte : (j : ℕ) → j < length c → getD c j 0 < 256 = λ j b. rw (content-at img 0 j (omega arith)) (bytes (512 * 0 + (2 + j))) in
       let words : (format ∷ edition ∷ fields (state-of img)) ≡ words-from c 14 0 =
-          ap₂ (λ (a b : ℕ). a ∷ b ∷ fields (state-of img)) (sym (k .format)) (sym (k .edition)) in
+      ap₂ (λ (a b : ℕ). a ∷ b ∷ fields (state-of img)) (sym (k .format)) (sym (k .edition)) in
       ap (λ (w : List ℕ). padded 508 (words-bytes w)) words
       ∙ ap (padded 508) (words-back c 14 0 byte (omega arith))
       ∙ zeros-after 508 28 c long (omega arith) z

@@ -1,10 +1,10 @@
 -- The sum of a list's words, taken two bytes at a time from the front.
 use Prim.Native.Nat.{ℕ, zero, suc, _+_, _-_, _*_, _/_, _%_, _<_, _≤_}
-use mathlib.Core.Path.{_≡_, refl, sym, ap, _∙_}
+use mathlib.Core.Path.{_≡_, refl, sym, ap}
 use mathlib.Core.List.{List, [], _∷_, _++_}
 use native.Mathlib.Omega.{arith}
 use native.Mathlib.Nat.{zero-add}
-use lib.ListN.{length, getD, take, drop, length-append}
+use lib.ListN.{length, getD, take, drop}
 use lib.Seq.{drop-cons}
 use Rattle.image.specs.Image.{words-sum, word-bytes, words-bytes, word-at, checked}
 
@@ -81,11 +81,13 @@ pub words-back :
 unfolding word-at words-bytes
 words-back l zero n b h = refl
 words-back l (suc k) n b h =
-    rw (high-byte (getD l (2 * n) 0) (getD l (2 * n + 1) 0) (b (2 * n) (omega arith)) (b (2 * n + 1) (omega arith)),
-        low-byte (getD l (2 * n) 0) (getD l (2 * n + 1) 0) (b (2 * n + 1) (omega arith)),
-        words-back l k (n + 1) b (omega arith),
-        let e : 2 * suc k ≡ suc (suc (2 * k)) = omega arith in e,
-        drop-cons l (2 * n) 0 (omega arith),
-        drop-cons l (suc (2 * n)) 0 (omega arith),
-        let e : 2 * (n + 1) ≡ suc (suc (2 * n)) = omega arith in e,
-        let e : 2 * n + 1 ≡ suc (2 * n) = omega arith in e)
+    rw (
+      high-byte (getD l (2 * n) 0) (getD l (2 * n + 1) 0) (b (2 * n) (omega arith)) (b (2 * n + 1) (omega arith)),
+      low-byte (getD l (2 * n) 0) (getD l (2 * n + 1) 0) (b (2 * n + 1) (omega arith)),
+      words-back l k (n + 1) b (omega arith),
+      let e : 2 * suc k ≡ suc (suc (2 * k)) = omega arith in e,
+      drop-cons l (2 * n) 0 (omega arith),
+      drop-cons l (suc (2 * n)) 0 (omega arith),
+      let e : 2 * (n + 1) ≡ suc (suc (2 * n)) = omega arith in e,
+      let e : 2 * n + 1 ≡ suc (2 * n) = omega arith in e,
+    )

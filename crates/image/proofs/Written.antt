@@ -1,8 +1,8 @@
 -- What is written: the lengths of a block's parts, and that each block, and what it holds, is found again in the image.
-use Prim.Native.Nat.{ℕ, zero, suc, _+_, _-_, _*_, _/_, _%_, _<_, _≤_}
+use Prim.Native.Nat.{ℕ, zero, suc, _+_, _-_, _*_, _%_, _<_}
 use mathlib.Core.Path.{_≡_, refl, sym, ap, _∙_}
-use mathlib.Core.Bool.{true, _&&_}
-use mathlib.Core.List.{List, [], _∷_, _++_}
+use mathlib.Core.Bool.{true}
+use mathlib.Core.List.{List, _∷_, _++_}
 use native.Mathlib.Omega.{arith}
 use native.Mathlib.Numerals.{add-one}
 use native.Mathlib.Nat.{zero-add, mod-eq-of-lt}
@@ -12,7 +12,6 @@ use lib.Seq.{take-at, drop-at, take-all}
 use Rattle.memory.specs.Memory.{size}
 use Rattle.machine.specs.declared.State.{State}
 use Rattle.machine.specs.State.{well-formed}
-use Rattle.psi.specs.declared.Psi.{Psi}
 use Rattle.image.specs.Image.{image-size, format, edition, content, words-bytes, fields, word-bytes, word-at, padded, checked, words-sum, zeros, block, blocks, image, block-of, content-of, contents-of, memory-of, field-of, state-of, filler-of}
 use Rattle.image.specs.Calls.{fault, block-fault, first-fault, content-fault, read-fault, read}
 use Rattle.image.specs.Claims.{Words}
@@ -85,10 +84,10 @@ contents-found s m h =
     contents-joined (image s m) 33 1
     ∙ joined-shift (content-of (image s m)) 33 0
     ∙ joined-same (λ j. content-of (image s m) (j + 1)) (λ j. take 508 (drop (508 * j) (padded 16764 m))) 33 0
-      (λ j l b.
-        content-found s m (j + 1) (omega arith)
-        ∙ ap (content s m) (add-one j)
-        ∙ sym (padded-part 16764 (508 * j) 508 m (omega arith) (omega arith)))
+    (λ j l b.
+    content-found s m (j + 1) (omega arith)
+    ∙ ap (content s m) (add-one j)
+    ∙ sym (padded-part 16764 (508 * j) 508 m (omega arith) (omega arith)))
     ∙ joined-parts 508 (padded 16764 m) 33 0
     ∙ take-all 16764 (padded 16764 m) (rw (length-padded 16764 m (omega arith)) (omega arith))
 
@@ -117,30 +116,32 @@ filler-found s m h =
 state-found : (s : State) (m : List ℕ) → Words s → state-of (image s m) ≡ s
 unfolding state-of fields
 state-found s m w =
-    rw (field-found s m 2 (omega arith),
-        field-found s m 3 (omega arith),
-        field-found s m 4 (omega arith),
-        field-found s m 5 (omega arith),
-        field-found s m 6 (omega arith),
-        field-found s m 7 (omega arith),
-        field-found s m 8 (omega arith),
-        field-found s m 9 (omega arith),
-        field-found s m 10 (omega arith),
-        field-found s m 11 (omega arith),
-        field-found s m 12 (omega arith),
-        field-found s m 13 (omega arith),
-        mod-eq-of-lt (w .wp),
-        mod-eq-of-lt (w .pc),
-        mod-eq-of-lt (w .st),
-        mod-eq-of-lt (w .flags),
-        mod-eq-of-lt (w .mask),
-        mod-eq-of-lt (w .direction),
-        mod-eq-of-lt (w .latch),
-        mod-eq-of-lt (w .load),
-        mod-eq-of-lt (w .decrementer),
-        mod-eq-of-lt (w .reading),
-        mod-eq-of-lt (w .phase),
-        mod-eq-of-lt (w .pending))
+    rw (
+      field-found s m 2 (omega arith),
+      field-found s m 3 (omega arith),
+      field-found s m 4 (omega arith),
+      field-found s m 5 (omega arith),
+      field-found s m 6 (omega arith),
+      field-found s m 7 (omega arith),
+      field-found s m 8 (omega arith),
+      field-found s m 9 (omega arith),
+      field-found s m 10 (omega arith),
+      field-found s m 11 (omega arith),
+      field-found s m 12 (omega arith),
+      field-found s m 13 (omega arith),
+      mod-eq-of-lt (w .wp),
+      mod-eq-of-lt (w .pc),
+      mod-eq-of-lt (w .st),
+      mod-eq-of-lt (w .flags),
+      mod-eq-of-lt (w .mask),
+      mod-eq-of-lt (w .direction),
+      mod-eq-of-lt (w .latch),
+      mod-eq-of-lt (w .load),
+      mod-eq-of-lt (w .decrementer),
+      mod-eq-of-lt (w .reading),
+      mod-eq-of-lt (w .phase),
+      mod-eq-of-lt (w .pending),
+    )
 
 -- The image is accepted, and gives back the state and the memory.
 
@@ -160,10 +161,12 @@ nothing-found :
     (s : State) (m other : List ℕ) → Words s → well-formed s ≡ true → length m ≡ size → length other ≡ size → read-fault (image s m) other ≡ fault 0
 unfolding read-fault
 nothing-found s m other w f h o =
-    rw (eq-eqb (length other) size o,
-        eq-eqb (length (image s m)) image-size (image-length s m),
-        blocks-right (image s m) 34 0 (λ j l. block-right s m j (omega arith)),
-        content-right s m w f h)
+    rw (
+      eq-eqb (length other) size o,
+      eq-eqb (length (image s m)) image-size (image-length s m),
+      blocks-right (image s m) 34 0 (λ j l. block-right s m j (omega arith)),
+      content-right s m w f h,
+    )
 
 pub read-written :
     (s : State) (m other : List ℕ) → Words s → well-formed s ≡ true → length m ≡ size → length other ≡ size

@@ -4,12 +4,6 @@ use borrow.Author.Tests.{eq-eqb, ne-eqb, not-true, not-false}
 use borrow.Author.Needs.{needs}
 use Rattle.image.proofs.content_fault.Statement.{statement}
 use Rattle.image.proofs.content_fault.Tie as tie
-use Rattle.image.proofs.content_fault.Reads as reads
-use Rattle.image.proofs.content_fault.Lts as lts
-use Rattle.image.proofs.blocks.field.Reads as field-reads
-use Rattle.image.proofs.blocks.state_of.Reads as state-of-reads
-use Rattle.image.proofs.filler_clear.Reads as filler-clear-reads
-use Rattle.machine.proofs.State.well_formed.Reads as well-formed-reads
 
 field-requires : tie.Need-field-requires
 field-requires c κs = search needs

@@ -1,5 +1,5 @@
 -- `fill_image` meets its contract: the buffer holds the image's first `i` blocks.
-use Prim.Native.Nat.{ℕ, _+_, _-_, _*_, _≤_, _<_}
+use Prim.Native.Nat.{ℕ, _+_, _-_, _*_, _≤_}
 use mathlib.Core.Path.{_≡_, refl, sym, ap, _∙_}
 use mathlib.Core.List.{List, _++_, append-nil}
 use native.Mathlib.Omega.{arith}
@@ -12,10 +12,6 @@ use Rattle.image.proofs.Lists.{grown, grown-length}
 use Rattle.image.proofs.Written.{image-block, image-length}
 use Rattle.image.proofs.fill_image.Statement.{statement}
 use Rattle.image.proofs.fill_image.Tie as tie
-use Rattle.image.proofs.fill_image.Reads as reads
-use Rattle.image.proofs.fill_image.Lts as lts
-use Rattle.bytes.proofs.copy.Reads as copy-reads
-use Rattle.image.proofs.blocks.block.Reads as block-reads
 
 abbrev Inv-loop : tie.InvT-loop
 Inv-loop state lent image₀ i₀ image i =

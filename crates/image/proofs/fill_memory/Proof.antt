@@ -1,5 +1,5 @@
 -- `fill_memory` meets its contract: the lent bytes are the image's memory as far as the blocks before `i` + 1 carry it.
-use Prim.Native.Nat.{ℕ, min, _+_, _-_, _*_, _≤_, _<_}
+use Prim.Native.Nat.{ℕ, min, _+_, _-_, _*_, _≤_}
 use mathlib.Core.Path.{_≡_, refl, sym, ap, _∙_}
 use mathlib.Core.List.{List, _++_, append-nil}
 use native.Mathlib.Omega.{arith}
@@ -11,10 +11,6 @@ use Rattle.image.proofs.Lists.{grown, grown-length}
 use Rattle.image.proofs.Parts.{memory-part, memory-length}
 use Rattle.image.proofs.fill_memory.Statement.{statement}
 use Rattle.image.proofs.fill_memory.Tie as tie
-use Rattle.image.proofs.fill_memory.Reads as reads
-use Rattle.image.proofs.fill_memory.Lts as lts
-use Rattle.bytes.proofs.copy.Reads as copy-reads
-use Rattle.image.proofs.blocks.carried.Reads as carried-reads
 
 abbrev Inv-loop : tie.InvT-loop
 Inv-loop image lent₀ i₀ lent i =

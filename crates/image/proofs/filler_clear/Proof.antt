@@ -1,16 +1,12 @@
 -- `filler_clear` meets its contract: the filler lies in two parts of the image.
-use mathlib.Core.Path.{_≡_, sym, _∙_}
 use native.Mathlib.Omega.{arith}
-use Rattle.image.specs.Image.{zeros, filler-of}
+use Rattle.image.specs.Image.{zeros}
 use Rattle.image.proofs.Parts.{filler-lies, zeros-append}
 use lib.ListN.{take, drop}
 use borrow.Author.Tests.{not-true, not-false}
 use borrow.Author.Needs.{needs}
 use Rattle.image.proofs.filler_clear.Statement.{statement}
 use Rattle.image.proofs.filler_clear.Tie as tie
-use Rattle.image.proofs.filler_clear.Reads as reads
-use Rattle.image.proofs.filler_clear.Lts as lts
-use Rattle.image.proofs.blocks.zeros.Reads as zeros-reads
 
 sub-zeros : tie.Need-sub-zeros
 sub-zeros c = search needs

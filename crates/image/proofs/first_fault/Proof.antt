@@ -10,9 +10,6 @@ use Rattle.bits.specs.Bits.{if_then_else_}
 use Rattle.image.specs.Calls.{first-fault, block-fault}
 use Rattle.image.proofs.first_fault.Statement.{statement}
 use Rattle.image.proofs.first_fault.Tie as tie
-use Rattle.image.proofs.first_fault.Reads as reads
-use Rattle.image.proofs.first_fault.Lts as lts
-use Rattle.image.proofs.blocks.block_fault.Reads as block-fault-reads
 
 -- one block more is judged
 next :

@@ -4,10 +4,6 @@ use borrow.Author.Tests.{eq-eqb, ne-eqb}
 use borrow.Author.Needs.{needs}
 use Rattle.image.proofs.read_fault.Statement.{statement}
 use Rattle.image.proofs.read_fault.Tie as tie
-use Rattle.image.proofs.read_fault.Reads as reads
-use Rattle.image.proofs.read_fault.Lts as lts
-use Rattle.image.proofs.content_fault.Reads as content-fault-reads
-use Rattle.image.proofs.first_fault.Reads as first-fault-reads
 
 returns : tie.Need-returns
 unfolding read-fault

@@ -1,17 +1,11 @@
 -- `read_image` meets its contract: a refusal gives back what it was given, and an accepted image its state and its memory.
-use mathlib.Core.Path.{_≡_, sym, ap, _∙_}
+use mathlib.Core.Path.{sym, ap, _∙_}
 use Rattle.image.specs.Calls.{Fault, read}
 use Rattle.image.proofs.Accepted.{accepted}
 use borrow.Author.Tests.{eq-eqb, ne-eqb}
 use borrow.Author.Needs.{needs}
 use Rattle.image.proofs.read_image.Statement.{statement}
 use Rattle.image.proofs.read_image.Tie as tie
-use Rattle.image.proofs.read_image.Reads as reads
-use Rattle.image.proofs.read_image.Lts as lts
-use Rattle.image.proofs.blocks.state_of.Reads as state-of-reads
-use Rattle.image.proofs.fill_memory.Reads as fill-memory-reads
-use Rattle.image.proofs.read_fault.Reads as read-fault-reads
-use Rattle.machine.proofs.State.blank.Reads as blank-reads
 
 read-fault-requires : tie.Need-read-fault-requires
 read-fault-requires c κs = search needs

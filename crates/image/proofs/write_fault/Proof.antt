@@ -4,9 +4,6 @@ use borrow.Author.Tests.{eq-eqb, ne-eqb, not-true, not-false}
 use borrow.Author.Needs.{needs}
 use Rattle.image.proofs.write_fault.Statement.{statement}
 use Rattle.image.proofs.write_fault.Tie as tie
-use Rattle.image.proofs.write_fault.Reads as reads
-use Rattle.image.proofs.write_fault.Lts as lts
-use Rattle.machine.proofs.State.well_formed.Reads as well-formed-reads
 
 returns : tie.Need-returns
 unfolding write-fault

@@ -1,15 +1,11 @@
 -- `write_image` meets its contract: a refusal leaves the buffer, and otherwise it is filled.
-use mathlib.Core.Path.{_≡_, sym, _∙_}
+use mathlib.Core.Path.{sym, _∙_}
 use Rattle.image.specs.Calls.{write}
 use Rattle.image.proofs.Accepted.{writable}
 use borrow.Author.Tests.{eq-eqb, ne-eqb}
 use borrow.Author.Needs.{needs}
 use Rattle.image.proofs.write_image.Statement.{statement}
 use Rattle.image.proofs.write_image.Tie as tie
-use Rattle.image.proofs.write_image.Reads as reads
-use Rattle.image.proofs.write_image.Lts as lts
-use Rattle.image.proofs.fill_image.Reads as fill-image-reads
-use Rattle.image.proofs.write_fault.Reads as write-fault-reads
 
 write-fault-requires : tie.Need-write-fault-requires
 write-fault-requires c κs = search needs

@@ -7,11 +7,6 @@ use Rattle.image.specs.Image.{block}
 use Rattle.image.proofs.Written.{unchecked-body}
 use Rattle.image.proofs.blocks.block.Statement.{statement}
 use Rattle.image.proofs.blocks.block.Tie as tie
-use Rattle.image.proofs.blocks.block.Reads as reads
-use Rattle.image.proofs.blocks.block.Lts as lts
-use Rattle.image.proofs.blocks.checked.Reads as checked-reads
-use Rattle.image.proofs.blocks.header.Reads as header-reads
-use Rattle.image.proofs.blocks.page.Reads as page-reads
 
 header-requires : tie.Need-header-requires
 header-requires c κs = search needs

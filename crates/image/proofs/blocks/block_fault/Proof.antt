@@ -11,10 +11,6 @@ use Rattle.image.specs.Calls.{block-fault}
 use Rattle.image.proofs.Parts.{block-word}
 use Rattle.image.proofs.blocks.block_fault.Statement.{statement}
 use Rattle.image.proofs.blocks.block_fault.Tie as tie
-use Rattle.image.proofs.blocks.block_fault.Reads as reads
-use Rattle.image.proofs.blocks.block_fault.Lts as lts
-use Rattle.image.proofs.blocks.words_sum.Reads as words-sum-reads
-use Rattle.memory.proofs.word.Reads as word-reads
 
 mul-from : tie.Need-mul-from
 mul-from c = search needs

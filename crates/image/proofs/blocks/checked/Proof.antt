@@ -1,17 +1,13 @@
 -- `checked` meets its contract: the check word goes over the last two bytes.
 use Prim.Native.Nat.{_-_}
 use borrow.Author.Needs.{needs}
-use mathlib.Core.Path.{_≡_, sym}
+use mathlib.Core.Path.{sym}
 use native.Mathlib.Omega.{arith}
 use lib.Seq.{length-take-le}
 use Rattle.image.specs.Image.{checked}
 use Rattle.image.proofs.Parts.{put-last}
 use Rattle.image.proofs.blocks.checked.Statement.{statement}
 use Rattle.image.proofs.blocks.checked.Tie as tie
-use Rattle.image.proofs.blocks.checked.Reads as reads
-use Rattle.image.proofs.blocks.checked.Lts as lts
-use Rattle.image.proofs.blocks.put_word.Reads as put-word-reads
-use Rattle.image.proofs.blocks.words_sum.Reads as words-sum-reads
 
 array-share-prefix-made : tie.Need-array-share-prefix-made
 array-share-prefix-made c = search needs

@@ -5,9 +5,6 @@ use native.Mathlib.Omega.{arith}
 use Rattle.image.proofs.Parts.{field-at}
 use Rattle.image.proofs.blocks.field.Statement.{statement}
 use Rattle.image.proofs.blocks.field.Tie as tie
-use Rattle.image.proofs.blocks.field.Reads as reads
-use Rattle.image.proofs.blocks.field.Lts as lts
-use Rattle.memory.proofs.word.Reads as word-reads
 
 mul-at : tie.Need-mul-at
 mul-at c = search needs

@@ -5,14 +5,10 @@ use mathlib.Core.List.{List}
 use lib.ListN.{replicate}
 use borrow.Author.Needs.{needs}
 use Rattle.machine.specs.declared.State.{State}
-use Rattle.psi.specs.declared.Psi.{Psi}
 use Rattle.image.specs.Image.{content, padded, words-bytes, fields}
 use Rattle.image.specs.Blocks.{put-word, unchecked}
 use Rattle.image.proofs.blocks.header.Statement.{statement}
 use Rattle.image.proofs.blocks.header.Tie as tie
-use Rattle.image.proofs.blocks.header.Reads as reads
-use Rattle.image.proofs.blocks.header.Lts as lts
-use Rattle.image.proofs.blocks.put_word.Reads as put-word-reads
 
 -- the words put in one after the other are the definition's bytes
 filled : (s : State) (m : List ℕ) →

@@ -1,6 +1,6 @@
 -- `page` meets its contract: the part of memory goes between the number and zeros.
-use Prim.Native.Nat.{ℕ, suc, min, _+_, _-_, _*_, _%_}
-use mathlib.Core.Path.{_≡_, refl, sym, ap, _∙_}
+use Prim.Native.Nat.{ℕ, suc, min, _+_, _-_, _*_}
+use mathlib.Core.Path.{_≡_, ap, _∙_}
 use mathlib.Core.List.{List, _++_}
 use borrow.Rule.Slice.PartMut.{putMid}
 use Rattle.machine.specs.declared.State.{State}
@@ -14,11 +14,6 @@ use Rattle.image.specs.Blocks.{put-word, unchecked}
 use Rattle.image.proofs.Parts.{page-content}
 use Rattle.image.proofs.blocks.page.Statement.{statement}
 use Rattle.image.proofs.blocks.page.Tie as tie
-use Rattle.image.proofs.blocks.page.Reads as reads
-use Rattle.image.proofs.blocks.page.Lts as lts
-use Rattle.bytes.proofs.copy.Reads as copy-reads
-use Rattle.image.proofs.blocks.carried.Reads as carried-reads
-use Rattle.image.proofs.blocks.put_word.Reads as put-word-reads
 
 add-put-word : tie.Need-add-put-word
 add-put-word c = search needs

@@ -6,30 +6,22 @@ use native.Mathlib.Omega.{arith}
 use Rattle.image.specs.Blocks.{put-word}
 use Rattle.image.proofs.blocks.put_word.Statement.{statement}
 use Rattle.image.proofs.blocks.put_word.Tie as tie
-use Rattle.image.proofs.blocks.put_word.Reads as reads
-use Rattle.image.proofs.blocks.put_word.Lts as lts
 
--- src/blocks.rt:53:17
 cast-block : tie.Need-cast-block
 cast-block c = search needs
 
--- src/blocks.rt:53:5
 element-write-block : tie.Need-element-write-block
 element-write-block c = search needs
 
--- src/blocks.rt:54:21
 cast-block-2 : tie.Need-cast-block-2
 cast-block-2 c = search needs
 
--- src/blocks.rt:54:11
 add-block : tie.Need-add-block
 add-block c = search needs
 
--- src/blocks.rt:54:5
 element-write-block-2 : tie.Need-element-write-block-2
 element-write-block-2 c = search needs
 
--- src/blocks.rt:49:1
 returns : tie.Need-returns
 unfolding put-word
 returns c = rw (mod-eq-of-lt (let e : c .args .word / 256 < 256 = omega arith in e))

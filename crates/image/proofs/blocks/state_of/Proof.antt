@@ -3,9 +3,6 @@ use borrow.Author.Needs.{needs}
 use Rattle.image.specs.Image.{state-of}
 use Rattle.image.proofs.blocks.state_of.Statement.{statement}
 use Rattle.image.proofs.blocks.state_of.Tie as tie
-use Rattle.image.proofs.blocks.state_of.Reads as reads
-use Rattle.image.proofs.blocks.state_of.Lts as lts
-use Rattle.image.proofs.blocks.field.Reads as field-reads
 
 field-requires : tie.Need-field-requires
 field-requires c κs = search needs

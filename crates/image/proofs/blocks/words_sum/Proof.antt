@@ -1,18 +1,14 @@
 -- `words_sum` meets its contract: the sum so far and the words from `at` on make the whole sum modulo 65536.
-use Prim.Native.Nat.{ℕ, _+_, _-_, _*_, _%_, _<_, _≤_}
+use Prim.Native.Nat.{ℕ, _+_, _-_, _%_, _<_, _≤_}
 use mathlib.Core.Path.{_≡_}
 use mathlib.Core.List.{List}
 use native.Mathlib.Omega.{arith}
 use borrow.Author.Needs.{needs}
-use lib.ListN.{length, getD, drop, length-drop}
+use lib.ListN.{length, drop, length-drop}
 use Rattle.image.specs.Image.{words-sum}
 use Rattle.image.proofs.Words.{sum-next, sum-none}
 use Rattle.image.proofs.blocks.words_sum.Statement.{statement}
 use Rattle.image.proofs.blocks.words_sum.Tie as tie
-use Rattle.image.proofs.blocks.words_sum.Reads as reads
-use Rattle.image.proofs.blocks.words_sum.Lts as lts
-use Rattle.memory.proofs.word.Reads as word-reads
-use Rattle.std.proofs.num.wrapping_add_u16.Reads as wrapping-add-u16-reads
 
 abbrev Inv-loop : tie.InvT-loop
 Inv-loop part sum₀ at₀ sum at =

@@ -11,8 +11,6 @@ use lib.ListN.{length, getD, drop, drop-of-length-le}
 use Rattle.image.specs.Image.{zeros}
 use Rattle.image.proofs.blocks.zeros.Statement.{statement}
 use Rattle.image.proofs.blocks.zeros.Tie as tie
-use Rattle.image.proofs.blocks.zeros.Reads as reads
-use Rattle.image.proofs.blocks.zeros.Lts as lts
 
 -- the byte at a place, and the bytes after it
 next : (l : List ℕ) (i : ℕ) → i < length l → zeros (drop i l) ≡ (eqb (getD l i 0) 0 && zeros (drop (i + 1) l))
