@@ -126,11 +126,14 @@ pub fn block_fault(image: &[u8], i: usize) -> u16
     ensures { λ r. ⌜ r ≡ Calls.block-fault (now (image .entry)) i ⌝ }
 {
     let from = 512 * i;
+    let low = from + 1;
     let to = from + 512;
-    if words_sum(&image[from..to]) != 65535 {
+    let sum = words_sum(&image[from..to]);
+    let number = memory::word(image[from], image[low]) as usize;
+    if sum != 65535 {
         return 6;
     }
-    if memory::word(image[from], image[from + 1]) as usize != i {
+    if number != i {
         return 7;
     }
     0

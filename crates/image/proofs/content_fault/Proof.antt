@@ -11,7 +11,7 @@ field-requires c κs = search needs
 returns : tie.Need-returns
 unfolding content-fault
 returns c =
-    rw (← c .before .field .ensures, ne-eqb _ _ (c .if1 .taken))
+    simp (← c .before .field .ensures, ne-eqb _ _ (c .if1 .taken))
 
 field-requires-2 : tie.Need-field-requires-2
 field-requires-2 c κs = search needs
@@ -19,7 +19,7 @@ field-requires-2 c κs = search needs
 returns-2 : tie.Need-returns-2
 unfolding content-fault
 returns-2 c =
-    rw (
+    simp (
       ← c .before .before .before .field .ensures,
       eq-eqb _ _ (c .before .before .if1 .left),
       ← c .before .field2 .ensures,
@@ -35,7 +35,7 @@ well-formed-requires c κs = search needs
 returns-3 : tie.Need-returns-3
 unfolding content-fault
 returns-3 c =
-    rw (
+    simp (
       ← c .before .before .before .before .before .before .field .ensures,
       eq-eqb _ _ (c .before .before .before .before .before .if1 .left),
       ← c .before .before .before .before .field2 .ensures,
@@ -51,7 +51,7 @@ filler-clear-requires c κs = search needs
 returns-4 : tie.Need-returns-4
 unfolding content-fault
 returns-4 c =
-    rw (
+    simp (
       ← c .before .before .before .before .before .before .before .before .field .ensures,
       eq-eqb _ _ (c .before .before .before .before .before .before .before .if1 .left),
       ← c .before .before .before .before .before .before .field2 .ensures,
@@ -66,7 +66,7 @@ returns-4 c =
 returns-5 : tie.Need-returns-5
 unfolding content-fault
 returns-5 c =
-    rw (
+    simp (
       ← c .before .before .before .before .before .before .before .before .field .ensures,
       eq-eqb _ _ (c .before .before .before .before .before .before .before .if1 .left),
       ← c .before .before .before .before .before .before .field2 .ensures,

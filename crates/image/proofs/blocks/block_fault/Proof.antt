@@ -6,7 +6,7 @@ use native.Mathlib.Omega.{arith}
 use lib.ListN.{take, drop}
 use borrow.Author.Needs.{needs}
 use borrow.Author.Tests.{eq-eqb, ne-eqb}
-use Rattle.image.specs.Image.{block-of, words-sum}
+use Rattle.image.specs.Image.{block-of, words-sum, word-at}
 use Rattle.image.specs.Calls.{block-fault}
 use Rattle.image.proofs.Parts.{block-word}
 use Rattle.image.proofs.blocks.block_fault.Statement.{statement}
@@ -14,6 +14,9 @@ use Rattle.image.proofs.blocks.block_fault.Tie as tie
 
 mul-from : tie.Need-mul-from
 mul-from c = search needs
+
+add-low : tie.Need-add-low
+add-low c = search needs
 
 add-to : tie.Need-add-to
 add-to c = search needs
@@ -30,23 +33,8 @@ part-words-sum-end c = search needs
 words-sum-requires : tie.Need-words-sum-requires
 words-sum-requires c κs = search needs
 
--- a part of 512 bytes is the block
-whole : (img : List ℕ) (i r : ℕ) → r ≡ words-sum (take (512 * i + 512 - 512 * i) (drop (512 * i) img)) % 65536 → r ≡ words-sum (block-of img i) % 65536
-unfolding block-of
-whole img i r h = rw (let e : 512 * i + 512 - 512 * i ≡ 512 = omega arith in e) at h
-
-returns : tie.Need-returns
-unfolding block-fault
-returns c =
-    let a = c .before .before .before .before .args in
-    let sum = whole (a .image .now) (a .i) _ (c .before .words-sum .ensures) in
-    rw (ne-eqb (words-sum (block-of (a .image .now) (a .i)) % 65536) 65535 (λ e. c .if1 .taken (sum ∙ e)))
-
 shared-slice-read-word : tie.Need-shared-slice-read-word
 shared-slice-read-word c = search needs
-
-add-word : tie.Need-add-word
-add-word c = search needs
 
 shared-slice-read-word-2 : tie.Need-shared-slice-read-word-2
 shared-slice-read-word-2 c = search needs
@@ -54,50 +42,56 @@ shared-slice-read-word-2 c = search needs
 word-requires : tie.Need-word-requires
 word-requires c κs = search needs
 
-cast-if2 : tie.Need-cast-if2
-cast-if2 c = search needs
+cast-number : tie.Need-cast-number
+cast-number c = search needs
+
+-- the sum of a part of 512 bytes is the block's
+whole : (img : List ℕ) (i n r : ℕ) → r ≡ words-sum (take n (drop (512 * i) img)) % 65536 → n ≡ 512 → words-sum (block-of img i) % 65536 ≡ r
+unfolding block-of
+whole img i n r h e = sym (rw e at h)
+
+-- the sum and the number that the code judges are the block's
+judged :
+    (c : tie.After-word)
+    → (words-sum (block-of (c .before .before .before .before .before .before .args .image .now) (c .before .before .before .before .before .before .args .i)) % 65536
+    ≡ c .before .before .before .words-sum .result)
+    × (word-at (block-of (c .before .before .before .before .before .before .args .image .now) (c .before .before .before .before .before .before .args .i)) 0
+    ≡ c .word .result)
+judged c =
+    let a = c .before .before .before .before .before .before .args in (
+      whole (a .image .now) (a .i) _ _ (c .before .before .before .words-sum .ensures) (omega arith),
+      block-word (a .image .now) (a .i) ∙ sym (c .word .ensures),
+    )
+
+returns : tie.Need-returns
+unfolding block-fault
+returns c = simp (judged (c .before) .0, judged (c .before) .1, ne-eqb _ _ (c .if1 .taken))
 
 returns-2 : tie.Need-returns-2
 unfolding block-fault
 returns-2 c =
-    let b = c .before .before .before .before in
-    let a = b .before .before .before .before .args in
-    let sum = whole (a .image .now) (a .i) _ (b .before .words-sum .ensures) in
-    rw (
-      eq-eqb (words-sum (block-of (a .image .now) (a .i)) % 65536) 65535 (sym sum ∙ b .if1 .left),
-      block-word (a .image .now) (a .i),
-      ← c .before .word .ensures,
-      ne-eqb (c .before .word .result) (a .i) (c .if2 .taken),
-    )
+    simp (judged (c .before .before) .0, judged (c .before .before) .1, eq-eqb _ _ (c .before .if1 .left), ne-eqb _ _ (c .if2 .taken))
 
 returns-3 : tie.Need-returns-3
 unfolding block-fault
 returns-3 c =
-    let b = c .before .before .before .before in
-    let a = b .before .before .before .before .args in
-    let sum = whole (a .image .now) (a .i) _ (b .before .words-sum .ensures) in
-    rw (
-      eq-eqb (words-sum (block-of (a .image .now) (a .i)) % 65536) 65535 (sym sum ∙ b .if1 .left),
-      block-word (a .image .now) (a .i),
-      ← c .before .word .ensures,
-      eq-eqb (c .before .word .result) (a .i) (c .if2 .left),
-    )
+    simp (judged (c .before .before) .0, judged (c .before .before) .1, eq-eqb _ _ (c .before .if1 .left), eq-eqb _ _ (c .if2 .left))
 
 pub block-fault-spec : {M : Type 1} → statement M
 block-fault-spec =
     tie.close
     (tie.spec
     mul-from
+    add-low
     add-to
     sub-words-sum
     part-words-sum-start
     part-words-sum-end
     words-sum-requires
-    returns
     shared-slice-read-word
-    add-word
     shared-slice-read-word-2
     word-requires
-    cast-if2
+    cast-number
+    returns
     returns-2
     returns-3)

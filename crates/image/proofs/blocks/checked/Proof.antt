@@ -13,7 +13,7 @@ array-share-prefix-made : tie.Need-array-share-prefix-made
 array-share-prefix-made c = search needs
 
 slice-aggregate-words-sum : tie.Need-slice-aggregate-words-sum
-slice-aggregate-words-sum c = sym (length-take-le 510 (c .before .args .block) (omega arith))
+slice-aggregate-words-sum c = sym (length-take-le _ (c .before .args .block) (omega arith))
 
 words-sum-requires : tie.Need-words-sum-requires
 words-sum-requires c κs = search needs
