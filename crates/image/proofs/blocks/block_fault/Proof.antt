@@ -59,7 +59,7 @@ judged :
     ≡ c .word .result)
 judged c =
     let a = c .before .before .before .before .before .before .args in (
-      whole (a .image .now) (a .i) _ _ (c .before .before .before .words-sum .ensures) (omega arith),
+      whole (a .image .now) (a .i) (512 * a .i + 512 - 512 * a .i) _ (c .before .before .before .words-sum .ensures) (omega arith),
       block-word (a .image .now) (a .i) ∙ sym (c .word .ensures),
     )
 
