@@ -10,6 +10,20 @@ ghost use Rattle.image.specs.Blocks as Blocks;
 use machine::State;
 use psi::Psi;
 
+// Sizes in bytes: of a block, of what it carries besides its number and its check word, of an image, of the memory.
+pub const BLOCK_SIZE: usize = 512;
+
+pub const CONTENT_SIZE: usize = 508;
+
+pub const IMAGE_SIZE: usize = 17408;
+
+pub const MEMORY_SIZE: usize = 16384;
+
+// The blocks of an image, and the last of them.
+pub const BLOCKS: usize = 34;
+
+pub const LAST: usize = 33;
+
 // Block 0 begins with these two words.
 pub const FORMAT: u16 = 0x9901;
 
@@ -47,7 +61,11 @@ pub(crate) fn carried(i: usize) -> usize
     requires { ⌜ i < 34 ⌝ }
     ensures { λ r. ⌜ r ≡ min (508 * i) 16384 ⌝ }
 {
-    if i < 33 { 508 * i } else { 16384 }
+    if i < LAST {
+        CONTENT_SIZE * i
+    } else {
+        MEMORY_SIZE
+    }
 }
 
 // Puts a word at a byte of a block.
@@ -90,7 +108,7 @@ fn page(lent: &[u8], i: usize) -> [u8; 512]
 {
     let mut block = [0u8; 512];
     put_word(&mut block, 0, (i + 1) as u16);
-    let from = 508 * i;
+    let from = CONTENT_SIZE * i;
     let to = carried(i + 1);
     bytes::copy(&lent[from..to], &mut block[2..510]);
     block
@@ -125,9 +143,9 @@ pub fn block_fault(image: &[u8], i: usize) -> u16
     requires { ⌜ i < 34 ⌝ }
     ensures { λ r. ⌜ r ≡ Calls.block-fault (now (image .entry)) i ⌝ }
 {
-    let from = 512 * i;
+    let from = BLOCK_SIZE * i;
     let low = from + 1;
-    let to = from + 512;
+    let to = from + BLOCK_SIZE;
     let sum = words_sum(&image[from..to]);
     let number = memory::word(image[from], image[low]) as usize;
     if sum != 65535 {

@@ -34,7 +34,7 @@ fn first_fault(image: &[u8]) -> Fault
     ensures { λ r. ⌜ Blocks.found r ≡ Calls.first-fault (now (image .entry)) Image.block-count 0 ⌝ }
 {
     let mut i = 0;
-    while i < 34 {
+    while i < blocks::BLOCKS {
         let number = blocks::block_fault(image, i);
         if number != 0 {
             return Fault {
@@ -86,13 +86,13 @@ fn content_fault(image: &[u8]) -> u16
 fn read_fault(image: &[u8], lent: &[u8]) -> Fault
     ensures { λ r. ⌜ Blocks.found r ≡ Calls.read-fault (now (image .entry)) (now (lent .entry)) ⌝ }
 {
-    if lent.len() != 16384 {
+    if lent.len() != blocks::MEMORY_SIZE {
         return Fault {
             number: 1,
             block: 0,
         };
     }
-    if image.len() != 17408 {
+    if image.len() != blocks::IMAGE_SIZE {
         return Fault {
             number: 5,
             block: 0,
@@ -115,10 +115,11 @@ fn fill_memory(image: &[u8], lent: &mut [u8])
     ensures { λ _. ⌜ now (lent .exit) ≡ Image.memory-of (now (image .entry)) ⌝ }
 {
     let mut i = 0;
-    while i < 33 {
-        let from = 508 * i;
+    // Block `i` + 1: behind its number lies what it carries.
+    while i < blocks::LAST {
+        let from = blocks::CONTENT_SIZE * i;
         let to = blocks::carried(i + 1);
-        let start = 512 * i + 514;
+        let start = blocks::BLOCK_SIZE * i + 514;
         let end = start + (to - from);
         bytes::copy(&image[start..end], &mut lent[from..to]);
         i += 1;
@@ -152,10 +153,10 @@ pub fn read_image(image: &[u8], bytes: &mut [u8]) -> ReadAnswer
 fn write_fault(state: State, lent: &[u8], image: &[u8]) -> u16
     ensures { λ r. ⌜ r ≡ Calls.write-fault state (now (lent .entry)) (now (image .entry)) ⌝ }
 {
-    if lent.len() != 16384 {
+    if lent.len() != blocks::MEMORY_SIZE {
         return 1;
     }
-    if image.len() != 17408 {
+    if image.len() != blocks::IMAGE_SIZE {
         return 5;
     }
     if !state.well_formed() {
@@ -171,10 +172,10 @@ fn fill_image(state: State, lent: &[u8], image: &mut [u8])
     ensures { λ _. ⌜ now (image .exit) ≡ Image.image state (now (lent .entry)) ⌝ }
 {
     let mut i = 0;
-    while i < 34 {
+    while i < blocks::BLOCKS {
         let block = blocks::block(state, lent, i);
-        let from = 512 * i;
-        let to = from + 512;
+        let from = blocks::BLOCK_SIZE * i;
+        let to = from + blocks::BLOCK_SIZE;
         bytes::copy(&block, &mut image[from..to]);
         i += 1;
     }
