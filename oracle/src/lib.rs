@@ -9,7 +9,9 @@ pub mod cpu;
 pub mod image;
 pub mod psi;
 pub mod run;
+pub mod seeds;
 pub mod state;
+pub mod table;
 
 pub use bus::{Access, Bus, Memory, MEMORY_SIZE};
 pub use cpu::{Machine, Step};

@@ -1,5 +1,6 @@
 //! `oracle replay IMAGE PINS OUT`: reads an image and a pin file, runs, writes
 //! the image after, and prints one line.
+//! `oracle table SEED COUNT`: prints a table of random steps for the checker.
 
 use std::ffi::OsString;
 use std::fs::{self, File, OpenOptions};
@@ -16,23 +17,29 @@ const NO_STOP: u16 = 1;
 
 fn main() -> ExitCode {
     let arguments: Vec<OsString> = std::env::args_os().skip(1).collect();
-    let [command, image, pins, out] = arguments.as_slice() else {
-        return usage();
-    };
-    if command != "replay" {
-        return usage();
-    }
-    match replay(image.as_ref(), pins.as_ref(), out.as_ref()) {
-        Ok(answer) => match writeln!(io::stdout(), "{}", line(&answer)) {
-            Ok(()) => ExitCode::SUCCESS,
-            Err(error) => failure(&format!("standard output: {error}")),
+    let words: Vec<&str> = arguments.iter().map(|word| word.to_str().unwrap_or("")).collect();
+    match (words.as_slice(), arguments.as_slice()) {
+        (["replay", ..], [_, image, pins, out]) => match replay(image.as_ref(), pins.as_ref(), out.as_ref()) {
+            Ok(answer) => print(&format!("{}\n", line(&answer))),
+            Err(message) => failure(&message),
         },
-        Err(message) => failure(&message),
+        (["table", seed, count], _) => match (seed.parse(), count.parse()) {
+            (Ok(seed), Ok(count)) => print(&oracle::table::table(seed, count)),
+            _ => usage(),
+        },
+        _ => usage(),
+    }
+}
+
+fn print(text: &str) -> ExitCode {
+    match io::stdout().write_all(text.as_bytes()) {
+        Ok(()) => ExitCode::SUCCESS,
+        Err(error) => failure(&format!("standard output: {error}")),
     }
 }
 
 fn usage() -> ExitCode {
-    eprintln!("usage: oracle replay IMAGE PINS OUT");
+    eprintln!("usage: oracle replay IMAGE PINS OUT\n       oracle table SEED COUNT");
     ExitCode::from(2)
 }
 

@@ -1,21 +1,25 @@
 -- Bounds that hold at either width: a width has at most 65536 values, and a raised number is one of them.
 use Prim.Native.Nat.{ℕ, _+_, _-_, _*_, _/_, _%_, _^_, _<_, _≤_}
-use mathlib.Core.Path.{_≡_}
+use mathlib.Core.Path.{_≡_, sym, _∙_}
 use native.Mathlib.Omega.{arith}
 use native.Mathlib.Nat.{mod-lt, le-of-lt, lt-of-le-of-lt, mul-le-mul-left, mul-lt-mul-of-pos-right, div-lt-iff-lt-mul}
+use native.Mathlib.Decide.{decLt}
+use lib.Dec.{leb}
 use lib.Pow.{pow-add, pow-pos}
+use borrow.Author.Tests.{le-leb, lt-leb, eq-eqb, ne-eqb}
+use Rattle.bits.specs.Bits.{bit}
 use Rattle.memory.specs.declared.Width.{Width}
 use Rattle.memory.specs.declared.Width.the-variants.{Byte, Word}
 use Rattle.memory.specs.Memory.{modulus}
-use Rattle.alu.specs.Status.{raised}
+use Rattle.alu.specs.Status.{half, raised}
 
 pub modulus-bounds : (w : Width) → (0 < modulus w) × (modulus w ≤ 65536)
 modulus-bounds Byte = omega arith
 modulus-bounds Word = omega arith
 
-pub raised-below : (w : Width) (a : ℕ) → raised w a < modulus w
+pub raised-below : (w : Width) (a : ℕ) → raised w a < 65536
 unfolding raised
-raised-below w a = mod-lt _ (modulus-bounds w .0)
+raised-below w a = omega (arith, modulus-bounds w, mod-lt (a + half w) (modulus-bounds w .0))
 
 -- reducing to a word first loses nothing, at either width
 pub reduced-twice : (w : Width) (x : ℕ) → x % 65536 % modulus w ≡ x % modulus w
@@ -36,3 +40,18 @@ quotient-below d high low h l =
     let room : high * 65536 + low < 65536 * d = omega arith in
     let some : 0 < d = omega arith in
     div-lt-iff-lt-mul some .1 room
+
+-- a number is below another or not
+pub either-side : {A : Type 0} (a b : ℕ) → (a < b → A) → (b ≤ a → A) → A
+either-side {A} a b below beyond = choose (decLt a b)
+  where
+    choose : Dec (a < b) → A
+    choose (yes h) = below h
+    choose (no h) = beyond (omega arith)
+
+-- the sign of a word is its highest bit
+pub sign-bit : (v : ℕ) → v < 65536 → bit 15 v ≡ leb 32768 v
+unfolding bit
+sign-bit v h =
+    either-side v 32768 (λ l. ne-eqb (v / 32768 % 2) 1 (omega arith) ∙ sym (lt-leb 32768 v l))
+    (λ g. eq-eqb (v / 32768 % 2) 1 (omega arith) ∙ sym (le-leb 32768 v g))

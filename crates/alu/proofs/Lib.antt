@@ -1,1 +1,6 @@
 pub mod Laws
+pub mod Shifting
+pub mod Fitting
+pub mod Says
+pub mod Signs
+pub mod Whole

@@ -2,3 +2,4 @@ pub mod Status
 pub mod Sums
 pub mod Shifts
 pub mod Products
+pub mod Laws

@@ -1,9 +1,8 @@
 -- Shifts of a word.
 use Prim.Native.Nat.{ℕ, zero, suc, _+_, _-_, _*_, _/_, _%_, _^_}
-use mathlib.Core.Bool.{Bool, true, false, not, _&&_, _||_}
+use mathlib.Core.Bool.{Bool, false, not, _||_}
 use lib.Dec.{eqb}
 use Rattle.bits.specs.Bits.{if_then_else_, bit, put}
-use Rattle.memory.specs.declared.Width.{Width}
 use Rattle.memory.specs.declared.Width.the-variants.{Word}
 use Rattle.isa.specs.declared.ShiftOp.{ShiftOp}
 use Rattle.isa.specs.declared.ShiftOp.the-variants.{Sra, Srl, Sla, Src}

@@ -1,6 +1,6 @@
 -- Status bits: comparison, parity, carry and overflow, and the conditions of the jumps.
 use Prim.Native.Nat.{ℕ, _+_, _/_, _%_}
-use mathlib.Core.Bool.{Bool, true, false, not, _&&_, _||_}
+use mathlib.Core.Bool.{Bool, true, not, _&&_, _||_}
 use lib.Dec.{eqb, ltb}
 use lib.Count.{ones}
 use Rattle.bits.specs.Bits.{bit, put}

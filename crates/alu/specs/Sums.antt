@@ -1,10 +1,10 @@
 -- Sums and differences over a width; carry and overflow are facts about whole numbers.
 use Prim.Native.Nat.{ℕ, _+_, _-_, _%_}
-use mathlib.Core.Bool.{Bool, true, false, _||_}
+use mathlib.Core.Bool.{Bool, false, _||_}
 use lib.Dec.{eqb, ltb, leb}
 use Rattle.bits.specs.Bits.{if_then_else_, bit}
 use Rattle.memory.specs.declared.Width.{Width}
-use Rattle.memory.specs.declared.Width.the-variants.{Byte, Word}
+use Rattle.memory.specs.declared.Width.the-variants.{Word}
 use Rattle.memory.specs.Memory.{modulus}
 use Rattle.alu.specs.declared.Outcome.{Outcome}
 use Rattle.alu.specs.Status.{half, raised, compared, judged, carried}

@@ -1,5 +1,8 @@
 // Sums and differences over a width.
 ghost use mathlib.Core.Path.{_≡_};
+ghost use Prim.Native.Nat.{_-_, _%_};
+ghost use Rattle.bits.specs.Bits as Bits;
+ghost use Rattle.bits.specs.Bits.{if_then_else_};
 ghost use Rattle.alu.specs.Sums as Sums;
 use super::Outcome;
 use super::status;
@@ -57,20 +60,25 @@ pub fn negated(v: u16, st: u16) -> Outcome
     difference(Width::Word, 0, v, st)
 }
 
+// A signed word without its sign; 8000h stays.
+fn magnitude(v: u16) -> u16
+    ensures { λ r. ⌜ r ≡ (if Bits.bit 15 v then (65536 - v) % 65536 else v) ⌝ }
+{
+    if bits::bit(v as u32, 15) {
+        num::wrapping_sub_u16(0, v)
+    } else {
+        v
+    }
+}
+
 // The operand without its sign; the status judges the operand.
 pub fn absolute(v: u16, st: u16) -> Outcome
     ensures { λ r. ⌜ r ≡ Sums.absolute v st ⌝ }
 {
-    let after = status::carried(false, v == 32768, status::compared(Width::Word, v, 0, st));
-    if bits::bit(v as u32, 15) {
-        Outcome {
-            value: num::wrapping_sub_u16(0, v),
-            st: after,
-        }
-    } else {
-        Outcome {
-            value: v,
-            st: after,
-        }
+    let value = magnitude(v);
+    let judged = status::compared(Width::Word, v, 0, st);
+    Outcome {
+        value,
+        st: status::carried(false, v == 32768, judged),
     }
 }

@@ -1,14 +1,18 @@
 -- A 16-bit word with one bit replaced is a 16-bit word: above the bit there are 16 - n digits, and making the lowest of
--- them 0 or 1 leaves them that many.
-use Prim.Native.Nat.{ℕ, zero, _+_, _-_, _*_, _/_, _%_, _^_, _<_, _≤_}
+-- them 0 or 1 leaves them that many. The bit put reads back and every other bit is kept: a bit above sees only the digits
+-- above, and a bit below does not see what is added from n on.
+use Prim.Native.Nat.{ℕ, suc, _+_, _-_, _*_, _/_, _%_, _^_, _<_, _≤_}
 use mathlib.Core.Path.{_≡_, refl, sym, ap, subst, _∙_}
 use mathlib.Core.Bool.{Bool, true, false}
 use native.Mathlib.Omega.{arith}
-use native.Mathlib.Nat.{div-lt-iff-lt-mul, mod-eq-of-lt, mod-lt, mod-eq-sub-div-mul, div-mul-le-self}
-use lib.Pow.{pow-pos, pow-add}
-use lib.Arith.{digits-lt}
+use native.Mathlib.Nat.{div-lt-iff-lt-mul, mod-eq-of-lt, mod-lt, mod-eq-sub-div-mul, div-mul-le-self, div-add-mod', add-mul-div-right, pow-suc}
+use native.Mathlib.Decide.{decLt}
+use lib.Pow.{pow-pos, pow-add, shr-shr}
+use lib.Dec.{eqb}
+use lib.Arith.{digits-lt, digits-div}
 use mir.Val.{boolByte}
-use Rattle.bits.specs.Bits.{one-if}
+use Rattle.bits.specs.Bits.{one-if, bit, put}
+use Rattle.bits.specs.Laws.{Put-read, Put-others, Put-fits}
 
 pub one-if-byte : (b : Bool) → boolByte b ≡ one-if b
 one-if-byte true = refl
@@ -47,3 +51,60 @@ module _ (w n x : ℕ) (fits : w < 2 ^ 16) (small : n < 16) (binary : x < 2) whe
   pub shifts-exact :
       (w / 2 ^ n / 2 * 2 + x) * 2 ^ n % 2 ^ 32 + (w - w / 2 ^ n * 2 ^ n % 2 ^ 32) ≡ (w / 2 ^ n / 2 * 2 + x) * 2 ^ n + w % 2 ^ n
   shifts-exact = rw (made-kept, high-kept, ← mod-eq-sub-div-mul w (2 ^ n))
+
+truth : (b : Bool) → eqb (one-if b) 1 ≡ b
+truth true = refl
+truth false = refl
+
+-- the bits from n on: those above the bit as they were, and the bit
+upper : (n : ℕ) (b : Bool) (w : ℕ) → put n b w / 2 ^ n ≡ w / 2 ^ n / 2 * 2 + one-if b
+unfolding put
+upper n b w = digits-div (w / 2 ^ n / 2 * 2 + one-if b) (mod-lt w (pow-pos n))
+
+pub put-read : Put-read
+unfolding bit
+put-read n b w =
+    let e : (w / 2 ^ n / 2 * 2 + one-if b) % 2 ≡ one-if b = omega (arith, one-if-below b) in
+    rw (upper n b w, e) (truth b)
+
+-- a bit below does not see what is added from n on
+added : (m d x r : ℕ) → (x * 2 ^ (suc d + m) + r) / 2 ^ m % 2 ≡ r / 2 ^ m % 2
+added m d x r =
+    let e : x * 2 ^ (suc d + m) + r ≡ r + x * 2 ^ suc d * 2 ^ m = rw (pow-add 2 (suc d) m) (omega arith) in
+    rw (e, add-mul-div-right r (x * 2 ^ suc d) (pow-pos m), pow-suc 2 d) (omega arith)
+
+below : (m d : ℕ) (b : Bool) (w : ℕ) → bit m (put (suc d + m) b w) ≡ bit m w
+unfolding bit put
+below m d b w =
+    let n : ℕ = suc d + m in
+    ap (λ (x : ℕ). eqb x 1)
+    (added m d (w / 2 ^ n / 2 * 2 + one-if b) (w % 2 ^ n)
+    ∙ sym (added m d (w / 2 ^ n) (w % 2 ^ n))
+    ∙ ap (λ (x : ℕ). x / 2 ^ m % 2) (div-add-mod' w (2 ^ n)))
+
+-- a bit above sees only what lies above
+above : (n d : ℕ) (b : Bool) (w : ℕ) → bit (n + (1 + d)) (put n b w) ≡ bit (n + (1 + d)) w
+unfolding bit
+above n d b w =
+    let e : (w / 2 ^ n / 2 * 2 + one-if b) / 2 ≡ w / 2 ^ n / 2 = omega (arith, one-if-below b) in
+    let higher : put n b w / 2 ^ (n + (1 + d)) ≡ w / 2 ^ (n + (1 + d)) =
+    sym (shr-shr (put n b w) n (1 + d))
+    ∙ ap (λ (x : ℕ). x / 2 ^ (1 + d)) (upper n b w)
+    ∙ sym (shr-shr (w / 2 ^ n / 2 * 2 + one-if b) 1 d)
+    ∙ ap (λ (x : ℕ). x / 2 ^ d) e
+    ∙ shr-shr (w / 2 ^ n) 1 d
+    ∙ shr-shr w n (1 + d) in
+    ap (λ (x : ℕ). eqb (x % 2) 1) higher
+
+pub put-others : Put-others
+put-others m n b w other = choose (decLt m n)
+  where
+    choose : Dec (m < n) → bit m (put n b w) ≡ bit m w
+    choose (yes h) =
+        subst (λ (x : ℕ). bit m (put x b w) ≡ bit m w) (let e : suc (n - suc m) + m ≡ n = omega arith in e) (below m (n - suc m) b w)
+    choose (no h) =
+        subst (λ (x : ℕ). bit x (put n b w) ≡ bit x w) (let e : n + (1 + (m - suc n)) ≡ m = omega arith in e) (above n (m - suc n) b w)
+
+pub put-fits : Put-fits
+unfolding put
+put-fits n b w small fits = put-below w n (one-if b) fits small (one-if-below b)

@@ -1,6 +1,5 @@
 -- What each of the 65536 words is, and how many further words it takes.
 use Prim.Native.Nat.{ℕ, _+_, _/_, _%_}
-use mathlib.Core.Bool.{Bool, true, false}
 use lib.Dec.{eqb, leb, ltb}
 use Rattle.bits.specs.Bits.{if_then_else_}
 use Rattle.memory.specs.declared.Width.{Width}
@@ -12,7 +11,6 @@ use Rattle.isa.specs.declared.RegisterOp.{RegisterOp}
 use Rattle.isa.specs.declared.RegisterOp.the-variants.{Coc, Czc, Xor, Mpy, Div}
 use Rattle.isa.specs.declared.SingleOp.{SingleOp}
 use Rattle.isa.specs.declared.SingleOp.the-variants.{B, Clr, Neg, Inv, Inc, Inct, Dec, Dect, Bl, Swpb, Seto, Abs}
-use Rattle.isa.specs.declared.TransferOp.{TransferOp}
 use Rattle.isa.specs.declared.TransferOp.the-variants.{Ldcr, Stcr}
 use Rattle.isa.specs.declared.BitOp.{BitOp}
 use Rattle.isa.specs.declared.BitOp.the-variants.{Sbo, Sbz, Tb}

@@ -1,1 +1,2 @@
 pub mod Isa
+pub mod Words

@@ -48,6 +48,11 @@ unfoldable pub execute : ℕ → ℕ → Micro Deed
 execute zero w = instruction (λ o. done deed.Unassigned) (decoded w)
 execute (suc k) w = instruction (λ o. (operand Word o >>= load Word) >>= execute k) (decoded w)
 
+-- what X does with its operand, by the allowance that is left
+unfoldable pub again : ℕ → Operand → Micro Deed
+again zero o = done deed.Unassigned
+again (suc k) o = (operand Word o >>= load Word) >>= execute k
+
 -- The ninth X of one step is read as an unassigned word.
 abbrev pub allowance : ℕ
 allowance = 8

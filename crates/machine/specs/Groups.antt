@@ -68,6 +68,10 @@ dual op w s d = do
 unfoldable pub set-equal : Bool → Micro (Unit {0})
 set-equal b = set-status (put equal b)
 
+-- A pair is the register and the word after it.
+unfoldable pub set-pair : ℕ → Pair → Micro (Unit {0})
+set-pair n p = set-register n (p .high) >> set-register (n + 1) (p .low)
+
 -- DIV: OV exactly if the divisor is at most the high word, and then nothing else changes.
 unfoldable pub divide : ℕ → ℕ → Micro (Unit {0})
 divide n x = do
@@ -76,10 +80,9 @@ divide n x = do
       else (do
         low ← register (n + 1)
         set-status (put overflow false)
-        set-register n (divided x (record { high = high; low = low }) .high)
-        set-register (n + 1) (divided x (record { high = high; low = low }) .low)))
+        set-pair n (divided x (record { high = high; low = low }))))
 
--- what an instruction with a register as destination does with the source's value; a pair is the register and the word after it
+-- what an instruction with a register as destination does with the source's value
 unfoldable pub apply : RegisterOp → ℕ → ℕ → Micro (Unit {0})
 apply Coc n x = register n >>= λ d. set-equal (eqb (without x d) 0)
 apply Czc n x = register n >>= λ d. set-equal (eqb (both x d) 0)
@@ -87,10 +90,7 @@ apply Xor n x = do
   d ← register n
   r ← registers
   conclude-judged Word (register-at (r .wp) n) (exclusive d x)
-apply Mpy n x = do
-  d ← register n
-  set-register n (product d x .high)
-  set-register (n + 1) (product d x .low)
+apply Mpy n x = register n >>= λ d. set-pair n (product d x)
 apply Div n x = divide n x
 
 unfoldable pub with-register : RegisterOp → Operand → ℕ → Micro (Unit {0})
@@ -141,14 +141,15 @@ unfoldable pub transfer : TransferOp → Operand → ℕ → Micro (Unit {0})
 transfer Ldcr o n = load-cru (amount n) o
 transfer Stcr o n = store-cru (amount n) o
 
+-- what SBO, SBZ and TB do with their bit
+unfoldable pub reach : BitOp → CruBit → Micro (Unit {0})
+reach Sbo b = driven b true
+reach Sbz b = driven b false
+reach Tb b = sensed b >>= set-equal
+
 -- SBO, SBZ and TB reach a bit by a signed displacement.
 unfoldable pub access-bit : BitOp → ℕ → Micro (Unit {0})
 access-bit op d = cru-base >>= λ b. reach op (beyond b (displacement d))
-  where
-    reach : BitOp → CruBit → Micro (Unit {0})
-    reach Sbo b = driven b true
-    reach Sbz b = driven b false
-    reach Tb b = sensed b >>= set-equal
 
 -- a signed displacement of words, as the number of bytes further that it means where addresses wrap
 unfoldable pub jump-bytes : ℕ → ℕ
@@ -159,12 +160,19 @@ jump op d = registers >>= λ r.
     if jumps op (r .st) then set to-pc ((r .pc + jump-bytes d) % 65536) else done tt
 
 -- Shift count 0 means R0 modulo 16, and 0 there means 16.
+unfoldable pub shift-count : ℕ → Micro ℕ
+shift-count c = if eqb c 0 then register 0 else done c
+
 unfoldable pub shift : ShiftOp → ℕ → ℕ → Micro (Unit {0})
 shift op n c = do
   x ← register n
-  k ← (if eqb c 0 then register 0 else done c)
+  k ← shift-count c
   r ← registers
   conclude Word (register-at (r .wp) n) (shifted op x k)
+
+-- ABS stores only where the operand is negative.
+unfoldable pub replace : ℕ → ℕ → Micro (Unit {0})
+replace a x = if bit 15 x then store Word a (absolute x 0 .value) else done tt
 
 -- what a single-operand instruction does at its operand's address
 unfoldable pub modify : SingleOp → ℕ → Micro (Unit {0})
@@ -179,11 +187,7 @@ modify Dect a = load Word a >>= λ x. conclude Word a (difference Word x 2)
 modify Bl a = registers >>= λ r. (set to-pc a >> set-register 11 (r .pc))
 modify Swpb a = load Word a >>= λ x. store Word a (swapped x)
 modify Seto a = store Word a 65535
-modify Abs a = load Word a >>= λ x. (set-status (λ st. absolute x st .st) >> replace x)
-  where
-    -- only a negative operand is replaced
-    replace : ℕ → Micro (Unit {0})
-    replace x = if bit 15 x then store Word a (absolute x 0 .value) else done tt
+modify Abs a = load Word a >>= λ x. (set-status (λ st. absolute x st .st) >> replace a x)
 
 unfoldable pub single : SingleOp → Operand → Micro (Unit {0})
 single op o = operand Word o >>= modify op
@@ -197,19 +201,19 @@ merge Ori a d x = conclude-judged Word a (either d x)
 merge Ci a d x = set-status (compared Word d x)
 
 -- LI does not read its register.
+unfoldable pub old : ImmediateOp → ℕ → Micro ℕ
+old Li n = done 0
+old Ai n = register n
+old Andi n = register n
+old Ori n = register n
+old Ci n = register n
+
 unfoldable pub immediate : ImmediateOp → ℕ → Micro (Unit {0})
 immediate op n = do
-  d ← old op
+  d ← old op n
   x ← fetched
   r ← registers
   merge op (register-at (r .wp) n) d x
-  where
-    old : ImmediateOp → Micro ℕ
-    old Li = done 0
-    old Ai = register n
-    old Andi = register n
-    old Ori = register n
-    old Ci = register n
 
 -- ST with another interrupt mask
 abbrev pub masked : ℕ → ℕ → ℕ

@@ -6,5 +6,6 @@ pub mod Groups
 pub mod Execute
 pub mod Step
 pub mod Run
+pub mod Laws
 pub mod Cases
 pub mod Marked

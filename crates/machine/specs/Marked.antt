@@ -7,7 +7,7 @@ use Rattle.psi.specs.Psi.{blank, with-pending}
 use Rattle.psi.specs.Clock.{advanced}
 use Rattle.machine.specs.declared.State.{State}
 use Rattle.machine.specs.declared.RunAnswer.{RunAnswer}
-use Rattle.machine.specs.Cases.{Poke, Case, replayed, clocked, coded, every, quiet}
+use Rattle.machine.specs.Cases.{Poke, poked, zeros, Case, replayed, clocked, coded, every, quiet}
 
 abbrev word : ℕ → ℕ → Poke
 word a x = record { at = a; word = x }
@@ -22,7 +22,7 @@ stepped n s = record { number = 0; state = s; steps = 1; unassigned = n }
 
 -- one quiet step at 0100h from ST 0 and a blank PSI leads to 0102h with this ST
 abbrev plain : List Poke → ℕ → List Poke → Case
-plain before st after = replayed (start 0x100 0 blank) before (quiet 0 ∷ []) (stepped 0 (start 0x102 st blank)) after
+plain before st after = replayed (start 0x100 0 blank) (poked before zeros) (quiet 0 ∷ []) (stepped 0 (start 0x102 st blank)) after
 
 -- P7: control 1, load 255, and the decrementer with it
 abbrev loaded : Psi
@@ -55,7 +55,7 @@ table =
     -- P6 SLA R1,0 with R0 0
     ∷ plain (word 0x100 0x0A01 ∷ word 0x302 1 ∷ []) 0x3800 (word 0x302 0 ∷ [])
     -- P7 LDCR R1,15
-    ∷ replayed (start 0x100 0 blank) (word 0x100 0x33C1 ∷ word 0x302 0x01FF ∷ []) (quiet 0 ∷ []) (stepped 0 (start 0x102 0xC000 loaded)) []
+    ∷ replayed (start 0x100 0 blank) (poked (word 0x100 0x33C1 ∷ word 0x302 0x01FF ∷ []) zeros) (quiet 0 ∷ []) (stepped 0 (start 0x102 0xC000 loaded)) []
     -- P8 pending after 64 cycles and not before; cleared there, after 128 more and not before
     ∷ clocked running 63 0
     ∷ clocked running 64 1
@@ -65,13 +65,13 @@ table =
     ∷ coded (enabled 0x180) (quiet 0 - 2 ^ 6 - 2 ^ 7) 7
     ∷ coded (enabled 0x180) (quiet 0 - 2 ^ 7) 0
     -- P10 JMP to itself
-    ∷ replayed (start 0x100 0 blank) (word 0x100 0x10FF ∷ []) (quiet 0 ∷ []) (stepped 0 (start 0x100 0 blank)) []
+    ∷ replayed (start 0x100 0 blank) (poked (word 0x100 0x10FF ∷ []) zeros) (quiet 0 ∷ []) (stepped 0 (start 0x100 0 blank)) []
     -- P11 level 1 by INT3
-    ∷ replayed (start 0x100 4 (enabled 8)) (word 4 0x200 ∷ word 6 0x400 ∷ []) ((quiet 0 - 2 ^ 2) ∷ [])
+    ∷ replayed (start 0x100 4 (enabled 8)) (poked (word 4 0x200 ∷ word 6 0x400 ∷ []) zeros) ((quiet 0 - 2 ^ 2) ∷ [])
     (stepped 0 (record { wp = 0x200; pc = 0x400; st = 0; flags = 2; psi = enabled 8 }))
     (word 0x21A 0x300 ∷ word 0x21C 0x100 ∷ word 0x21E 4 ∷ [])
     -- P12 X R1 with X R1 in R1
-    ∷ replayed (start 0x100 0 blank) (word 0x100 0x0481 ∷ word 0x302 0x0481 ∷ []) (quiet 0 ∷ []) (stepped 1 (start 0x102 0 blank)) []
+    ∷ replayed (start 0x100 0 blank) (poked (word 0x100 0x0481 ∷ word 0x302 0x0481 ∷ []) zeros) (quiet 0 ∷ []) (stepped 1 (start 0x102 0 blank)) []
     ∷ []
 
 -- the claim

@@ -4,7 +4,7 @@ use mathlib.Core.Bool.{Bool}
 use mathlib.Core.List.{List, [], _∷_, _++_}
 use Rattle.memory.specs.declared.Width.{Width}
 use Rattle.memory.specs.declared.Width.the-variants.{Word}
-use Rattle.memory.specs.Memory.{loaded, stored}
+use Rattle.memory.specs.Memory.{loaded, stored, touched}
 use Rattle.psi.specs.declared.CruBit.{CruBit}
 use Rattle.psi.specs.Cru as Cru
 use Rattle.machine.specs.declared.State.{State}
@@ -81,3 +81,12 @@ fetches (was-read w a ∷ l) = fetches l
 fetches (was-written w a x ∷ l) = fetches l
 fetches (was-sensed b ∷ l) = fetches l
 fetches (was-driven b x ∷ l) = fetches l
+
+-- the places of all bytes that were stored into, equal values included
+unfoldable pub written : List Access → List ℕ
+written [] = []
+written (was-fetched a ∷ l) = written l
+written (was-read w a ∷ l) = written l
+written (was-written w a x ∷ l) = touched w a ++ written l
+written (was-sensed b ∷ l) = written l
+written (was-driven b x ∷ l) = written l

@@ -13,7 +13,10 @@ use Rattle.machine.specs.declared.RunAnswer.{RunAnswer}
 use Rattle.machine.specs.declared.StateAnswer.{StateAnswer}
 use Rattle.machine.specs.State.{Machine, blank, well-formed}
 use Rattle.machine.specs.Perform.{Performed, perform}
-use Rattle.machine.specs.Step.{Kind, was-reset, was-load, was-idle, was-level, ran, step, boundary, reset}
+use Rattle.machine.specs.declared.Kind.{Kind}
+use Rattle.machine.specs.declared.Kind.the-variants.{Reset as was-reset, Load as was-load, Idle as was-idle, Level as was-level, Ran as ran}
+use Rattle.machine.specs.declared.Signal.the-variants.{Reset as reset}
+use Rattle.machine.specs.Step.{step, boundary}
 
 -- whether a step met an unassigned word, as a number
 unfoldable pub missed : Kind → ℕ

@@ -8,17 +8,15 @@ use Rattle.psi.specs.Clock as Clock
 use Rattle.psi.specs.Pins as Pins
 use Rattle.psi.specs.declared.Record.{Record}
 use Rattle.machine.specs.declared.State.{State}
-use Rattle.machine.specs.declared.Deed.{Deed}
+use Rattle.machine.specs.declared.Signal.{Signal}
+use Rattle.machine.specs.declared.Signal.the-variants.{Reset as reset, Load as load, Level as level, Nothing as none}
+use Rattle.machine.specs.declared.Kind.{Kind}
+use Rattle.machine.specs.declared.Kind.the-variants.{Reset as was-reset, Load as was-load, Idle as was-idle, Level as was-level, Ran as ran}
 use Rattle.machine.specs.State.{Registers, Machine, idle, no-sample, with-psi}
 use Rattle.machine.specs.Micro.{Micro, done, to-st, to-flags, _>>=_, _>>_, registers, set, fetched}
 use Rattle.machine.specs.Perform.{Performed, perform}
 use Rattle.machine.specs.Groups.{set-status, masked, switch}
 use Rattle.machine.specs.Execute.{execute, allowance}
-
--- what stands at a step's boundary
-pub data Signal : Type 0 where
-  reset load none : Signal
-  level : ℕ → Signal
 
 -- Code 0 or 1: reset; 2: LOAD; 3, 4, 5, 6: level 1, 2, 3, 4; 7: nothing.
 unfoldable pub signal : ℕ → Signal
@@ -37,12 +35,6 @@ admitted r (level k) =
     else if leb k (r .st % 16) then level k
     else none
 admitted r none = none
-
--- what a step was
-pub data Kind : Type 0 where
-  was-reset was-load was-idle : Kind
-  was-level : ℕ → Kind
-  ran : Deed → Kind
 
 -- An entry: the context switch, then ST; idle is cleared and no-sample set.
 unfoldable pub enter : ℕ → (ℕ → ℕ) → Micro (Unit {0})
@@ -63,11 +55,24 @@ proceed = do
         d ← execute allowance w
         done (ran d)))
 
--- Vectors: reset 0, level k 4k, LOAD 3FFCh. Reset makes ST 0, LOAD the mask 0, level k the mask k - 1.
+-- Vectors: reset 0, level k 4k, LOAD 3FFCh.
+abbrev pub vector : Signal → ℕ
+vector reset = 0
+vector load = 0x3FFC
+vector (level k) = 4 * k % 65536
+vector none = 0
+
+-- Reset makes ST 0, LOAD the mask 0, level k the mask k - 1.
+abbrev pub entry-status : Signal → ℕ → ℕ
+entry-status reset st = 0
+entry-status load st = masked 0 st
+entry-status (level k) st = masked (k - 1) st
+entry-status none st = st
+
 unfoldable pub boundary : Signal → Micro Kind
-boundary reset = enter 0 (λ st. 0) >> done was-reset
-boundary load = enter 16380 (masked 0) >> done was-load
-boundary (level k) = enter (4 * k) (masked (k - 1)) >> done (was-level k)
+boundary reset = enter (vector reset) (entry-status reset) >> done was-reset
+boundary load = enter (vector load) (entry-status load) >> done was-load
+boundary (level k) = enter (vector (level k)) (entry-status (level k)) >> done (was-level k)
 boundary none = proceed
 
 -- the machine after the clock has advanced

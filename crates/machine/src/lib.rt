@@ -26,6 +26,26 @@ pub enum Deed {
     Returned,
 }
 
+// What the request code stands for at a step's boundary.
+pub enum Signal {
+    Reset,
+    Load,
+    // An interrupt of this level.
+    Level(u16),
+    Nothing,
+}
+
+// What a step was.
+pub enum Kind {
+    Reset,
+    Load,
+    Idle,
+    // An interrupt of this level.
+    Level(u16),
+    // An instruction.
+    Ran(Deed),
+}
+
 impl State {
     // All fields 0.
     pub fn blank() -> Self

@@ -1,4 +1,4 @@
-// General operands: the address that an addressing mode and a register mean.
+// General operands: the address that an addressing mode and a register mean; and results.
 ghost use mathlib.Core.Path.{_≡_};
 ghost use Prim.Native.Nat.{ℕ};
 ghost use Rattle.memory.specs.Memory.{Installed};
@@ -10,6 +10,8 @@ use machine::State;
 use machine::bus;
 use machine::bus::Loaded;
 use memory::Width;
+
+pub mod results;
 
 // A further word, plus a register where that is not R0.
 fn indexed(bytes: &[u8], state: State, n: u16) -> Loaded

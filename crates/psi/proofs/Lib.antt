@@ -1,1 +1,6 @@
+pub mod Cases
 pub mod Search
+pub mod Put
+pub mod ClockLaws
+pub mod RequestLaws
+pub mod Kept

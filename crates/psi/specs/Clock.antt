@@ -1,6 +1,5 @@
 -- The clock, tick by tick.
 use Prim.Native.Nat.{ℕ, zero, suc, _+_, _-_, _/_, _%_}
-use mathlib.Core.Bool.{Bool, true, false, not}
 use lib.Dec.{eqb}
 use Rattle.bits.specs.Bits.{if_then_else_}
 use Rattle.psi.specs.declared.Psi.{Psi}

@@ -1,6 +1,6 @@
 -- CRU bits: their numbers, and what reading and writing the PSI's bits does.
 use Prim.Native.Nat.{ℕ, _+_, _-_, _/_, _%_}
-use mathlib.Core.Bool.{Bool, true, false, not}
+use mathlib.Core.Bool.{Bool, true, not}
 use lib.Dec.{eqb, ltb}
 use Rattle.bits.specs.Bits.{if_then_else_, bit, put}
 use Rattle.psi.specs.declared.Psi.{Psi}

@@ -1,6 +1,5 @@
 -- The PSI's part of a well-formed state.
-use Prim.Native.Nat.{ℕ}
-use mathlib.Core.Bool.{Bool, true, false, _&&_, _||_}
+use mathlib.Core.Bool.{Bool, _&&_, _||_}
 use lib.Dec.{eqb, leb, ltb}
 use Rattle.bits.specs.Logic.{without}
 use Rattle.psi.specs.declared.Psi.{Psi}

@@ -1,6 +1,6 @@
 -- Pin records, levels at the pins, requests and their code.
 use Prim.Native.Nat.{ℕ, zero, suc, _+_, _-_, _/_, _%_, _^_}
-use mathlib.Core.Bool.{Bool, true, false, not, _&&_}
+use mathlib.Core.Bool.{Bool, not, _&&_}
 use lib.Dec.{eqb, ltb}
 use Rattle.bits.specs.Bits.{if_then_else_, bit}
 use Rattle.psi.specs.declared.Psi.{Psi}

@@ -10,46 +10,80 @@ dual-requires c κs = search needs
 
 returns : tie.Need-returns
 unfolding decoded
-returns c = rw (le-leb _ _ (c .before .if1 .taken)) (c .dual .ensures)
+returns c = rw (le-leb 0x4000 _ (c .before .if1 .taken)) (c .dual .ensures)
 
 with-register-requires : tie.Need-with-register-requires
 with-register-requires c κs = search needs
 
 returns-2 : tie.Need-returns-2
 unfolding decoded
-returns-2 c = rw (lt-leb _ _ (c .before .before .if1 .left), le-leb _ _ (c .before .if2 .taken)) (c .with-register .ensures)
+returns-2 c = rw (lt-leb 0x4000 _ (c .before .before .if1 .left), le-leb 0x2000 _ (c .before .if2 .taken)) (c .with-register .ensures)
 
 with-displacement-requires : tie.Need-with-displacement-requires
 with-displacement-requires c κs = search needs
 
 returns-3 : tie.Need-returns-3
 unfolding decoded
-returns-3 c = rw (lt-leb _ _ (c .before .before .before .if1 .left), lt-leb _ _ (c .before .before .if2 .left), le-leb _ _ (c .before .if3 .taken)) (c .with-displacement .ensures)
+returns-3 c =
+    rw (
+      lt-leb 0x4000 _ (c .before .before .before .if1 .left),
+      lt-leb 0x2000 _ (c .before .before .if2 .left),
+      le-leb 0x1000 _ (c .before .if3 .taken),
+    ) (c .with-displacement .ensures)
 
 shift-requires : tie.Need-shift-requires
 shift-requires c κs = search needs
 
 returns-4 : tie.Need-returns-4
 unfolding decoded
-returns-4 c = rw (lt-leb _ _ (c .before .before .before .before .if1 .left), lt-leb _ _ (c .before .before .before .if2 .left), lt-leb _ _ (c .before .before .if3 .left), le-leb _ _ (c .before .if4 .taken)) (c .shift .ensures)
+returns-4 c =
+    rw (
+      lt-leb 0x4000 _ (c .before .before .before .before .if1 .left),
+      lt-leb 0x2000 _ (c .before .before .before .if2 .left),
+      lt-leb 0x1000 _ (c .before .before .if3 .left),
+      le-leb 0x0800 _ (c .before .if4 .taken),
+    ) (c .shift .ensures)
 
 single-requires : tie.Need-single-requires
 single-requires c κs = search needs
 
 returns-5 : tie.Need-returns-5
 unfolding decoded
-returns-5 c = rw (lt-leb _ _ (c .before .before .before .before .before .if1 .left), lt-leb _ _ (c .before .before .before .before .if2 .left), lt-leb _ _ (c .before .before .before .if3 .left), lt-leb _ _ (c .before .before .if4 .left), le-leb _ _ (c .before .if5 .taken)) (c .single .ensures)
+returns-5 c =
+    rw (
+      lt-leb 0x4000 _ (c .before .before .before .before .before .if1 .left),
+      lt-leb 0x2000 _ (c .before .before .before .before .if2 .left),
+      lt-leb 0x1000 _ (c .before .before .before .if3 .left),
+      lt-leb 0x0800 _ (c .before .before .if4 .left),
+      le-leb 0x0400 _ (c .before .if5 .taken),
+    ) (c .single .ensures)
 
 immediate-requires : tie.Need-immediate-requires
 immediate-requires c κs = search needs
 
 returns-6 : tie.Need-returns-6
 unfolding decoded
-returns-6 c = rw (lt-leb _ _ (c .before .before .before .before .before .before .if1 .left), lt-leb _ _ (c .before .before .before .before .before .if2 .left), lt-leb _ _ (c .before .before .before .before .if3 .left), lt-leb _ _ (c .before .before .before .if4 .left), lt-leb _ _ (c .before .before .if5 .left), le-leb _ _ (c .before .if6 .taken)) (c .immediate .ensures)
+returns-6 c =
+    rw (
+      lt-leb 0x4000 _ (c .before .before .before .before .before .before .if1 .left),
+      lt-leb 0x2000 _ (c .before .before .before .before .before .if2 .left),
+      lt-leb 0x1000 _ (c .before .before .before .before .if3 .left),
+      lt-leb 0x0800 _ (c .before .before .before .if4 .left),
+      lt-leb 0x0400 _ (c .before .before .if5 .left),
+      le-leb 0x0200 _ (c .before .if6 .taken),
+    ) (c .immediate .ensures)
 
 returns-7 : tie.Need-returns-7
 unfolding decoded
-returns-7 c = rw (lt-leb _ _ (c .before .before .before .before .before .if1 .left), lt-leb _ _ (c .before .before .before .before .if2 .left), lt-leb _ _ (c .before .before .before .if3 .left), lt-leb _ _ (c .before .before .if4 .left), lt-leb _ _ (c .before .if5 .left), lt-leb _ _ (c .if6 .left))
+returns-7 c =
+    rw (
+      lt-leb 0x4000 _ (c .before .before .before .before .before .if1 .left),
+      lt-leb 0x2000 _ (c .before .before .before .before .if2 .left),
+      lt-leb 0x1000 _ (c .before .before .before .if3 .left),
+      lt-leb 0x0800 _ (c .before .before .if4 .left),
+      lt-leb 0x0400 _ (c .before .if5 .left),
+      lt-leb 0x0200 _ (c .if6 .left),
+    )
 
 pub decode-spec : {M : Type 1} → statement M
 decode-spec = tie.close (tie.spec dual-requires returns with-register-requires returns-2 with-displacement-requires returns-3 shift-requires returns-4 single-requires returns-5 immediate-requires returns-6 returns-7)

@@ -18,7 +18,8 @@ destination-requires c κs = search needs
 
 returns : tie.Need-returns
 unfolding dual
-returns c = cc
+returns c =
+    rw (c .before .before .before .dual-operation .ensures, c .before .before .dual-width .ensures, c .before .source .ensures, c .destination .ensures)
 
 pub dual-spec : {M : Type 1} → statement M
 dual-spec = tie.close (tie.spec dual-operation-requires dual-width-requires source-requires destination-requires returns)

@@ -1,12 +1,10 @@
+-- `isa::further_words` meets its contract: each arm of the match is a clause of the definition, and two operands take at most two words.
 use borrow.Author.Needs.{needs}
 use native.Mathlib.Omega.{arith}
 use Rattle.isa.proofs.Laws.{operand-words-at-most}
 use Rattle.isa.specs.Isa.{further-words}
 use Rattle.isa.proofs.further_words.Statement.{statement}
 use Rattle.isa.proofs.further_words.Tie as tie
-use Rattle.isa.proofs.further_words.Reads as reads
-use Rattle.isa.proofs.further_words.Lts as lts
-use Rattle.isa.proofs.operand_words.Reads as operand-words-reads
 
 enum-known-instruction : tie.Need-enum-known-instruction
 enum-known-instruction c = search needs

@@ -10,11 +10,11 @@ shift-operation-requires c κs = search needs
 
 returns : tie.Need-returns
 unfolding shift
-returns c = rw (lt-ltb _ _ (c .before .if1 .taken)) (cc)
+returns c = rw (lt-ltb _ 0x0C00 (c .before .if1 .taken), c .shift-operation .ensures)
 
 returns-2 : tie.Need-returns-2
 unfolding shift
-returns-2 c = rw (le-ltb _ _ (c .if1 .left))
+returns-2 c = rw (le-ltb _ 0x0C00 (c .if1 .left))
 
 pub shift-spec : {M : Type 1} → statement M
 shift-spec = tie.close (tie.spec shift-operation-requires returns returns-2)

@@ -13,11 +13,11 @@ bit-operation-requires c κs = search needs
 
 returns : tie.Need-returns
 unfolding with-displacement
-returns c = rw (lt-ltb _ _ (c .before .if1 .taken)) (cc)
+returns c = rw (lt-ltb _ 0x1D00 (c .before .if1 .taken), c .jump-operation .ensures)
 
 returns-2 : tie.Need-returns-2
 unfolding with-displacement
-returns-2 c = rw (le-ltb _ _ (c .before .if1 .left)) (cc)
+returns-2 c = rw (le-ltb _ 0x1D00 (c .before .if1 .left), c .bit-operation .ensures)
 
 pub with-displacement-spec : {M : Type 1} → statement M
 with-displacement-spec = tie.close (tie.spec jump-operation-requires bit-operation-requires returns returns-2)

@@ -26,7 +26,7 @@ returns-3 c = rw (c .match .keys3, c .before .source .ensures)
 returns-4 : tie.Need-returns-4
 unfolding with-register
 returns-4 c =
-    simp (ne-eqb _ _ (c .before .match .rest .1), ne-eqb _ _ (c .before .match .rest .0 .1), ne-eqb _ _ (c .before .match .rest .0 .0 .1)) (cc)
+    simp (ne-eqb _ _ (c .before .match .rest .1), ne-eqb _ _ (c .before .match .rest .0 .1), ne-eqb _ _ (c .before .match .rest .0 .0 .1), c .before .before .source .ensures, c .register-operation .ensures)
 
 pub with-register-spec : {M : Type 1} → statement M
 with-register-spec =

@@ -1,10 +1,9 @@
 -- `alu::products::divided` meets its contract: where the divisor exceeds the high word, the quotient is below 65536 and the remainder
 -- below the divisor.
 use Prim.Native.Nat.{_*_, _+_, _<_}
-use mathlib.Core.Path.{_≡_, refl}
 use native.Mathlib.Omega.{arith}
-use borrow.Author.Tests.{le-leb, lt-leb}
 use native.Mathlib.Nat.{mod-lt}
+use borrow.Author.Tests.{le-leb, lt-leb}
 use Rattle.alu.specs.Products.{divided}
 use Rattle.alu.proofs.Laws.{quotient-below}
 use borrow.Author.Needs.{needs}
@@ -13,7 +12,7 @@ use Rattle.alu.proofs.products.divided.Tie as tie
 
 returns : tie.Need-returns
 unfolding divided
-returns c = simp (le-leb _ _ (c .if1 .taken))
+returns c = simp (le-leb (c .before .args .d) (c .before .args .p .high) (omega arith))
 
 cast-all : tie.Need-cast-all
 cast-all c = search needs
@@ -31,20 +30,22 @@ div-t7 : tie.Need-div-t7
 div-t7 c = search needs
 
 cast-t10 : tie.Need-cast-t10
-cast-t10 c = let a = c .before .before .args in
-    record { fits = quotient-below (a .d) (a .p .high) (a .p .low) (c .before .if1 .left) (omega arith) }
+cast-t10 c =
+    let a = c .before .before .args in
+    record { fits = quotient-below (a .d) (a .p .high) (a .p .low) (omega arith) (omega arith) }
 
 rem-t9 : tie.Need-rem-t9
 rem-t9 c = search needs
 
 cast-t11 : tie.Need-cast-t11
-cast-t11 c = let a = c .before .before .args in
-    let pos : 0 < a .d = omega (arith, c .before .if1 .left) in
-    omega (arith, mod-lt (a .p .high * 65536 + a .p .low) pos)
+cast-t11 c =
+    let a = c .before .before .args in
+    let some : 0 < a .d = omega arith in
+    omega (arith, mod-lt (a .p .high * 65536 + a .p .low) some)
 
 returns-2 : tie.Need-returns-2
 unfolding divided
-returns-2 c = simp (lt-leb _ _ (c .before .if1 .left))
+returns-2 c = simp (lt-leb (c .before .before .args .d) (c .before .before .args .p .high) (omega arith))
 
 pub divided-spec : {M : Type 1} → statement M
 divided-spec =

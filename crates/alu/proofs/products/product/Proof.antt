@@ -1,5 +1,4 @@
 -- `alu::products::product` meets its contract: the product of two numbers of 16 bits has 32, so its upper part has 16.
-use Prim.Native.Nat.{_*_}
 use mathlib.Core.Path.{refl}
 use native.Mathlib.Omega.{arith}
 use Rattle.alu.specs.Products.{product}

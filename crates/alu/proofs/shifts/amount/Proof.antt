@@ -1,5 +1,4 @@
 -- `alu::shifts::amount` meets its contract: it tests as the definition does.
-use mathlib.Core.Path.{_≡_}
 use borrow.Author.Tests.{eq-eqb, ne-eqb}
 use Rattle.alu.specs.Shifts.{amount}
 use Rattle.alu.proofs.shifts.amount.Statement.{statement}

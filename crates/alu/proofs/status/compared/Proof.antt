@@ -1,5 +1,5 @@
 -- `alu::status::compared` meets its contract: the three bits are put as the definition puts them, and `raised` is its own.
-use mathlib.Core.Path.{_≡_}
+use mathlib.Core.Path.{refl}
 use Rattle.alu.specs.Status.{compared}
 use borrow.Author.Needs.{needs}
 use Rattle.alu.proofs.status.compared.Statement.{statement}
@@ -22,7 +22,7 @@ put-requires-3 c κs = search needs
 
 returns : tie.Need-returns
 unfolding compared
-returns c = cc
+returns c = rw (c .put3 .ensures, c .before .put2 .ensures, c .before .before .raised2 .ensures, c .before .before .before .raised .ensures, c .before .before .before .before .put .ensures) refl
 
 pub compared-spec : {M : Type 1} → statement M
 compared-spec =

@@ -1,5 +1,4 @@
 -- `alu::status::judged` meets its contract: the comparison with 0, then the parity.
-use mathlib.Core.Path.{_≡_}
 use Rattle.alu.specs.Status.{judged}
 use borrow.Author.Needs.{needs}
 use Rattle.alu.proofs.status.judged.Statement.{statement}
@@ -13,7 +12,7 @@ parity-requires c κs = search needs
 
 returns : tie.Need-returns
 unfolding judged
-returns c = cc
+returns c = rw (c .parity .ensures, c .before .compared .ensures)
 
 pub judged-spec : {M : Type 1} → statement M
 judged-spec = tie.close (tie.spec compared-requires parity-requires returns)

@@ -1,5 +1,4 @@
 -- `alu::status::parity` meets its contract: the count of ones is the library's, and a word form puts nothing.
-use mathlib.Core.Path.{_≡_}
 use Rattle.alu.specs.Status.{parity, is-odd}
 use borrow.Author.Needs.{needs}
 use Rattle.alu.proofs.status.parity.Statement.{statement}

@@ -1,5 +1,4 @@
 -- `alu::status::raised` meets its contract: each arm is the definition at its width.
-use mathlib.Core.Path.{_≡_}
 use Rattle.alu.specs.Status.{raised}
 use borrow.Author.Needs.{needs}
 use Rattle.alu.proofs.status.raised.Statement.{statement}

@@ -1,5 +1,5 @@
 -- `alu::status::reduced` meets its contract: a byte is what is left modulo 256, and every word is below 65536.
-use mathlib.Core.Path.{_≡_, sym}
+use mathlib.Core.Path.{sym}
 use native.Mathlib.Nat.{mod-eq-of-lt}
 use borrow.Author.Needs.{needs}
 use Rattle.alu.proofs.status.reduced.Statement.{statement}

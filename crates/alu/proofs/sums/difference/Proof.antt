@@ -1,7 +1,7 @@
 -- `alu::sums::difference` meets its contract: the wrapped difference reduced to the width is the definition's, and carry and overflow
 -- are those of the definition.
+use mathlib.Core.Path.{refl}
 use Prim.Native.Nat.{_+_, _-_}
-use mathlib.Core.Path.{_≡_}
 use native.Mathlib.Omega.{arith}
 use Rattle.alu.specs.Sums.{difference}
 use Rattle.alu.proofs.Laws.{reduced-twice, wrapped-difference}
@@ -26,9 +26,17 @@ carried-requires c κs = search needs
 
 returns : tie.Need-returns
 unfolding difference
-returns c = let a = c .before .before .before .before .before .args in
+returns c =
+    let a = c .before .before .before .before .before .args in
     let w = c .before .before .before .before .wrapping-sub-u16 in
-    cc (reduced-twice (a .width) (a .d + (65536 - a .s)), wrapped-difference (a .d) (a .s) (w .result) (omega arith) (omega arith) (omega arith) (w .ensures))
+    rw (
+      c .carried .ensures,
+      c .before .difference-overflows .ensures,
+      c .before .before .judged .ensures,
+      c .before .before .before .reduced .ensures,
+      wrapped-difference (a .d) (a .s) (w .result) (omega arith) (omega arith) (omega arith) (w .ensures),
+      reduced-twice (a .width) (a .d + (65536 - a .s)),
+    ) refl
 
 pub difference-spec : {M : Type 1} → statement M
 difference-spec =

@@ -1,5 +1,4 @@
 -- `alu::sums::difference_overflows` meets its contract: the code is the definition, and the raised numbers are small.
-use mathlib.Core.Path.{_≡_}
 use native.Mathlib.Omega.{arith}
 use Rattle.alu.specs.Sums.{difference-overflows}
 use Rattle.alu.proofs.Laws.{modulus-bounds, raised-below}
@@ -17,16 +16,18 @@ raised-requires-2 : tie.Need-raised-requires-2
 raised-requires-2 c κs = search needs
 
 add-result : tie.Need-add-result
-add-result c = let w = c .before .before .before .args .width in
-    omega (arith, modulus-bounds w, raised-below w (c .before .before .before .args .d), c .before .raised .ensures, c .before .before .modulus .ensures)
+add-result c =
+    let a = c .before .before .before .args in
+    omega (arith, modulus-bounds (a .width), raised-below (a .width) (a .d), c .before .raised .ensures, c .before .before .modulus .ensures)
 
 add-result-2 : tie.Need-add-result-2
-add-result-2 c = let w = c .before .before .before .args .width in
-    omega (arith, modulus-bounds w, raised-below w (c .before .before .before .args .s), c .raised2 .ensures, c .before .before .modulus .ensures)
+add-result-2 c =
+    let a = c .before .before .before .args in
+    omega (arith, modulus-bounds (a .width), raised-below (a .width) (a .s), c .raised2 .ensures, c .before .before .modulus .ensures)
 
 returns : tie.Need-returns
 unfolding difference-overflows
-returns c = cc
+returns c = rw (c .raised2 .ensures, c .before .raised .ensures, c .before .before .modulus .ensures)
 
 pub difference-overflows-spec : {M : Type 1} → statement M
 difference-overflows-spec =

@@ -1,5 +1,4 @@
 -- `alu::sums::negated` meets its contract: it is a difference.
-use mathlib.Core.Path.{_≡_}
 use Rattle.alu.specs.Sums.{negated}
 use borrow.Author.Needs.{needs}
 use Rattle.alu.proofs.sums.negated.Statement.{statement}

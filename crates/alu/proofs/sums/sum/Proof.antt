@@ -1,7 +1,7 @@
 -- `alu::sums::sum` meets its contract: the wrapped sum reduced to the width is the sum reduced to it, and carry and overflow are
 -- those of the definition.
+use mathlib.Core.Path.{refl}
 use Prim.Native.Nat.{_+_}
-use mathlib.Core.Path.{_≡_}
 use Rattle.alu.specs.Sums.{sum}
 use Rattle.alu.proofs.Laws.{reduced-twice}
 use borrow.Author.Needs.{needs}
@@ -31,7 +31,17 @@ carried-requires c κs = search needs
 
 returns : tie.Need-returns
 unfolding sum
-returns c = let a = c .before .before .before .before .before .before .args in cc (reduced-twice (a .width) (a .a + a .b))
+returns c =
+    let a = c .before .before .before .before .before .before .args in
+    rw (
+      c .carried .ensures,
+      c .before .sum-overflows .ensures,
+      c .before .before .judged .ensures,
+      c .before .before .before .modulus .ensures,
+      c .before .before .before .before .reduced .ensures,
+      c .before .before .before .before .before .wrapping-add-u16 .ensures,
+      reduced-twice (a .width) (a .a + a .b),
+    ) refl
 
 pub sum-spec : {M : Type 1} → statement M
 sum-spec =

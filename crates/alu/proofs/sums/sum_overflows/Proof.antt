@@ -1,5 +1,4 @@
 -- `alu::sums::sum_overflows` meets its contract: the code is the definition, and the raised numbers are small.
-use mathlib.Core.Path.{_≡_}
 use native.Mathlib.Omega.{arith}
 use Rattle.alu.specs.Sums.{sum-overflows}
 use Rattle.alu.proofs.Laws.{modulus-bounds, raised-below}
@@ -17,15 +16,16 @@ raised-requires-2 : tie.Need-raised-requires-2
 raised-requires-2 c κs = search needs
 
 add-total : tie.Need-add-total
-add-total c = let w = c .before .before .before .args .width in
-    omega (arith, modulus-bounds w, raised-below w (c .before .before .before .args .a), raised-below w (c .before .before .before .args .b), c .before .raised .ensures, c .raised2 .ensures)
+add-total c =
+    let a = c .before .before .before .args in
+    omega (arith, raised-below (a .width) (a .a), raised-below (a .width) (a .b), c .before .raised .ensures, c .raised2 .ensures)
 
 add-result : tie.Need-add-result
 add-result c = omega (arith, modulus-bounds (c .before .before .before .args .width), c .before .before .modulus .ensures)
 
 returns : tie.Need-returns
 unfolding sum-overflows
-returns c = cc
+returns c = rw (c .raised2 .ensures, c .before .raised .ensures, c .before .before .modulus .ensures)
 
 pub sum-overflows-spec : {M : Type 1} → statement M
 sum-overflows-spec =

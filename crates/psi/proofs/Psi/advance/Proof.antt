@@ -1,6 +1,6 @@
 -- The loop makes as many ticks as the phase comes round; the invariant counts those that are done.
-use Prim.Native.Nat.{_≤_, _-_, _+_, _/_, _%_}
-use mathlib.Core.Path.{_≡_, refl, ap, _∙_}
+use Prim.Native.Nat.{_≤_, _-_, _+_, _/_}
+use mathlib.Core.Path.{_≡_}
 use native.Mathlib.Omega.{arith}
 use native.Mathlib.Numerals.{add-one}
 use borrow.Author.Needs.{needs}
@@ -51,7 +51,10 @@ loop-again c = (search needs, rw (c .tick .ensures, c .before .before .loop .inv
 
 returns : tie.Need-returns Inv-loop μ-loop
 unfolding advanced
-returns c = let e : c .before .loop .counter ≡ (c .before .before .before .args .self .phase + c .before .before .before .args .cycles) / 64 = omega arith in rw (c .before .loop .inv .1, e)
+returns c =
+    let args = c .before .before .before .args in
+    let all : c .before .loop .counter ≡ (args .self .phase + args .cycles) / 64 = omega arith in
+    rw (c .before .loop .inv .1, all)
 
 pub advance-spec : {M : Type 1} → statement M
 advance-spec =

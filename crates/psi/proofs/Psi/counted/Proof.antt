@@ -1,4 +1,6 @@
 -- Each test of the code is a test of the definition.
+use mathlib.Core.Path.{_≡_}
+use native.Mathlib.Omega.{arith}
 use borrow.Author.Needs.{needs}
 use borrow.Author.Tests.{eq-eqb, ne-eqb}
 use Rattle.psi.specs.Clock.{counted}
@@ -10,15 +12,19 @@ sub-result c = search needs
 
 returns : tie.Need-returns
 unfolding counted
-returns c = simp (eq-eqb _ _ (c .before .before .if1 .taken), eq-eqb _ _ (c .if2 .taken))
+returns c =
+    let spent : c .before .before .before .before .args .self .decrementer ≡ 0 = omega arith in
+    rw (eq-eqb _ _ spent, eq-eqb _ _ (c .if2 .taken))
 
 returns-2 : tie.Need-returns-2
 unfolding counted
-returns-2 c = simp (eq-eqb _ _ (c .before .before .if1 .taken), ne-eqb _ _ (c .if2 .left))
+returns-2 c =
+    let spent : c .before .before .before .before .args .self .decrementer ≡ 0 = omega arith in
+    rw (eq-eqb _ _ spent, ne-eqb _ _ (c .if2 .left))
 
 returns-3 : tie.Need-returns-3
 unfolding counted
-returns-3 c = simp (ne-eqb _ _ (c .before .if1 .left))
+returns-3 c = rw (ne-eqb _ _ (c .before .if1 .left))
 
 pub counted-spec : {M : Type 1} → statement M
 counted-spec = tie.close (tie.spec sub-result returns returns-2 returns-3)

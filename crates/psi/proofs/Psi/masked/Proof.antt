@@ -1,4 +1,6 @@
 -- The code's test is the definition's.
+use mathlib.Core.Path.{_≡_}
+use native.Mathlib.Omega.{arith}
 use borrow.Author.Tests.{eq-eqb, ne-eqb}
 use Rattle.psi.specs.Cru.{masked}
 use borrow.Author.Needs.{needs}
@@ -10,7 +12,9 @@ put-requires c κs = search needs
 
 returns : tie.Need-returns
 unfolding masked
-returns c = rw (eq-eqb _ _ (c .if1 .taken), c .before .put .ensures)
+returns c =
+    let third : c .before .before .args .n ≡ 3 = omega arith in
+    rw (eq-eqb _ _ third, c .before .put .ensures)
 
 returns-2 : tie.Need-returns-2
 unfolding masked

@@ -1,5 +1,4 @@
 -- Each test of the code is a test of the definition.
-use mathlib.Core.Path.{_∙_, sym}
 use borrow.Author.Needs.{needs}
 use borrow.Author.Tests.{eq-eqb, ne-eqb}
 use Rattle.psi.specs.Clock.{pended}

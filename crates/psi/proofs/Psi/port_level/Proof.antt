@@ -28,7 +28,13 @@ returns c = rw (c .bit2 .ensures, ← c .before .before .before .bit .ensures, c
 
 returns-2 : tie.Need-returns-2
 unfolding port-level
-returns-2 c = rw (c .bit3 .ensures, c .before .port-weight .ensures, ← c .before .before .before .bit .ensures, c .before .before .if1 .left)
+returns-2 c =
+    rw (
+      c .bit3 .ensures,
+      c .before .port-weight .ensures,
+      ← c .before .before .before .bit .ensures,
+      c .before .before .if1 .left,
+    )
 
 pub port-level-spec : {M : Type 1} → statement M
 port-level-spec =

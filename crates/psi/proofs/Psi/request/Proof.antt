@@ -1,9 +1,8 @@
 -- The invariant: the search from n on gives what the whole search gives. It may end where no mask bit is left.
 use Prim.Native.Nat.{_≤_, _<_, _-_}
-use mathlib.Core.Path.{_≡_, refl, _∙_, sym}
+use mathlib.Core.Path.{_≡_, _∙_, sym}
 use native.Mathlib.Omega.{arith}
 use borrow.Author.Needs.{needs}
-use borrow.Author.Tests.{eqb-true, eqb-false, not-true, not-false}
 use Rattle.psi.specs.Pins.{lowest, request}
 use Rattle.psi.proofs.Search.{below-width, lowest-none, lowest-here, lowest-beyond}
 use Rattle.psi.proofs.Psi.request.Statement.{statement}
@@ -35,7 +34,9 @@ cast-result c = omega (arith, inside (c .before .before))
 
 returns : tie.Need-returns Inv-loop μ-loop
 unfolding request
-returns c = sym (c .before .before .before .loop .inv .2 ∙ lowest-here _ _ _ (inside (c .before .before)) (sym (c .before .requested .ensures) ∙ c .if1 .taken))
+returns c =
+    let here = lowest-here _ _ _ (inside (c .before .before)) (sym (c .before .requested .ensures) ∙ c .if1 .taken) in
+    sym (c .before .before .before .loop .inv .2 ∙ here)
 
 add-n : tie.Need-add-n Inv-loop μ-loop
 add-n c = search needs
@@ -44,7 +45,9 @@ loop-less : tie.Need-loop-less Inv-loop μ-loop
 loop-less c = omega (arith, inside (c .before .before))
 
 loop-again : tie.Need-loop-again Inv-loop μ-loop
-loop-again c = (search needs, omega (arith, inside (c .before .before)), c .before .before .before .loop .inv .2 ∙ lowest-beyond _ _ _ (inside (c .before .before)) (sym (c .before .requested .ensures) ∙ c .if1 .left))
+loop-again c =
+    let further = lowest-beyond _ _ _ (inside (c .before .before)) (sym (c .before .requested .ensures) ∙ c .if1 .left) in
+    (search needs, omega (arith, inside (c .before .before)), c .before .before .before .loop .inv .2 ∙ further)
 
 returns-2 : tie.Need-returns-2 Inv-loop μ-loop
 unfolding request

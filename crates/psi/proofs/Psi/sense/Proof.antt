@@ -17,11 +17,22 @@ returns c = rw (lt-ltb _ _ (c .if1 .taken), c .before .sensed-value .ensures)
 
 returns-2 : tie.Need-returns-2
 unfolding sensed
-returns-2 c = rw (le-ltb _ _ (c .before .before .if1 .left), lt-ltb _ _ (c .before .if2 .taken), c .refreshed .ensures, c .before .before .before .sensed-value .ensures)
+returns-2 c =
+    rw (
+      le-ltb _ _ (c .before .before .if1 .left),
+      lt-ltb _ _ (c .before .if2 .taken),
+      c .before .before .before .sensed-value .ensures,
+      ← c .refreshed .ensures,
+    )
 
 returns-3 : tie.Need-returns-3
 unfolding sensed
-returns-3 c = rw (le-ltb _ _ (c .before .if1 .left), le-ltb _ _ (c .if2 .left), c .before .before .sensed-value .ensures)
+returns-3 c =
+    rw (
+      le-ltb _ _ (c .before .if1 .left),
+      le-ltb _ _ (c .if2 .left),
+      c .before .before .sensed-value .ensures,
+    )
 
 pub sense-spec : {M : Type 1} → statement M
 sense-spec =

@@ -29,19 +29,44 @@ port-level-requires c κs = search needs
 
 returns-2 : tie.Need-returns-2
 unfolding sensed-value
-returns-2 c = rw (ne-eqb _ _ (c .before .before .before .before .if1 .left), lt-ltb _ _ (c .before .before .before .if2 .taken), ← c .before .before .control2 .ensures, c .before .if3 .taken, c .timed-value .ensures)
+returns-2 c =
+    rw (
+      ne-eqb _ _ (c .before .before .before .before .if1 .left),
+      lt-ltb _ _ (c .before .before .before .if2 .taken),
+      ← c .before .before .control2 .ensures,
+      c .before .if3 .taken,
+      c .timed-value .ensures,
+    )
 
 returns-3 : tie.Need-returns-3
 unfolding sensed-value
-returns-3 c = rw (ne-eqb _ _ (c .before .before .before .before .if1 .left), lt-ltb _ _ (c .before .before .before .if2 .taken), ← c .before .before .control2 .ensures, c .before .if3 .left, c .request-level .ensures)
+returns-3 c =
+    rw (
+      ne-eqb _ _ (c .before .before .before .before .if1 .left),
+      lt-ltb _ _ (c .before .before .before .if2 .taken),
+      ← c .before .before .control2 .ensures,
+      c .before .if3 .left,
+      c .request-level .ensures,
+    )
 
 returns-4 : tie.Need-returns-4
 unfolding sensed-value
-returns-4 c = rw (ne-eqb _ _ (c .before .before .before .if1 .left), le-ltb _ _ (c .before .before .if2 .left), lt-ltb _ _ (c .before .if4 .taken), c .port-level .ensures)
+returns-4 c =
+    rw (
+      ne-eqb _ _ (c .before .before .before .if1 .left),
+      le-ltb _ _ (c .before .before .if2 .left),
+      lt-ltb _ _ (c .before .if4 .taken),
+      c .port-level .ensures,
+    )
 
 returns-5 : tie.Need-returns-5
 unfolding sensed-value
-returns-5 c = rw (ne-eqb _ _ (c .before .before .if1 .left), le-ltb _ _ (c .before .if2 .left), le-ltb _ _ (c .if4 .left))
+returns-5 c =
+    rw (
+      ne-eqb _ _ (c .before .before .if1 .left),
+      le-ltb _ _ (c .before .if2 .left),
+      le-ltb _ _ (c .if4 .left),
+    )
 
 pub sensed-value-spec : {M : Type 1} → statement M
 sensed-value-spec =

@@ -1,5 +1,4 @@
 -- The code is the definition, step by step.
-use mathlib.Core.Path.{_≡_}
 use borrow.Author.Needs.{needs}
 use Rattle.psi.specs.Clock.{tick}
 use Rattle.psi.proofs.Psi.tick.Statement.{statement}

@@ -1,0 +1,1 @@
+// No code: random single steps, computed from the definitions, agree with the independent program.

@@ -1,0 +1,138 @@
+-- `alu::shifts::shift_value` meets its contract: what is shifted down and what is put above it share no bit, so their sum fits a word.
+use Prim.Native.Nat.{_-_, _*_, _%_, _^_}
+use mathlib.Core.Path.{_≡_}
+use native.Mathlib.Omega.{arith}
+use lib.Bits.{bitAnd, and-mask}
+use lib.Pow.{pow-pos}
+use Rattle.alu.specs.Shifts.{shift-value}
+use Rattle.alu.proofs.Shifting.{Room, room}
+use borrow.Author.Needs.{needs}
+use Rattle.alu.proofs.shifts.shift_value.Statement.{statement}
+use Rattle.alu.proofs.shifts.shift_value.Tie as tie
+
+room-of : (s : tie.Start) → Room (s .args .v) (s .args .k)
+room-of s = room (s .args .v) (s .args .k) (s .fits .v .fits) (s .pre)
+
+-- what SRC puts above: the low bits, moved up
+turned : (c : tie.After-weight3)
+    → bitAnd (c .before .before .before .before .args .v) (c .before .weight2 .result - 1) * c .weight3 .result
+    ≡ c .before .before .before .before .args .v % 2 ^ c .before .before .before .before .args .k * 2 ^ (16 - c .before .before .before .before .args .k)
+turned c = rw (c .before .weight2 .ensures, c .weight3 .ensures, and-mask (c .before .before .before .before .args .v) (c .before .before .before .before .args .k))
+
+shr-high : tie.Need-shr-high
+shr-high c = search needs
+
+enum-told : tie.Need-enum-told
+enum-told c = search needs
+
+shl-result : tie.Need-shl-result
+shl-result c = search needs
+
+cast-result : tie.Need-cast-result
+cast-result c = search needs
+
+enum-told-2 : tie.Need-enum-told-2
+enum-told-2 c = search needs
+
+bit-requires : tie.Need-bit-requires
+bit-requires c κs = search needs
+
+sub-weight : tie.Need-sub-weight
+sub-weight c = search needs
+
+weight-requires : tie.Need-weight-requires
+weight-requires c κs = search needs
+
+sub-result : tie.Need-sub-result
+sub-result c = omega (arith, c .weight .ensures, room-of (c .before .before .before .before .before))
+
+add-result : tie.Need-add-result
+add-result c = omega (arith, c .weight .ensures, room-of (c .before .before .before .before .before))
+
+cast-result-2 : tie.Need-cast-result-2
+cast-result-2 c = omega (arith, c .weight .ensures, room-of (c .before .before .before .before .before))
+
+cast-result-3 : tie.Need-cast-result-3
+cast-result-3 c = omega (arith, room-of (c .before .before .before .before))
+
+enum-told-3 : tie.Need-enum-told-3
+enum-told-3 c = search needs
+
+cast-result-4 : tie.Need-cast-result-4
+cast-result-4 c = omega (arith, room-of (c .before .before))
+
+enum-told-4 : tie.Need-enum-told-4
+enum-told-4 c = search needs
+
+weight-requires-2 : tie.Need-weight-requires-2
+weight-requires-2 c κs = search needs
+
+sub-result-2 : tie.Need-sub-result-2
+sub-result-2 c = omega (arith, c .weight2 .ensures, pow-pos (c .before .before .before .args .k))
+
+sub-weight-2 : tie.Need-sub-weight-2
+sub-weight-2 c = search needs
+
+weight-requires-3 : tie.Need-weight-requires-3
+weight-requires-3 c κs = search needs
+
+mul-result : tie.Need-mul-result
+mul-result c = rw (turned c) (omega (arith, room-of (c .before .before .before .before)))
+
+add-result-2 : tie.Need-add-result-2
+add-result-2 c = rw (turned c) (omega (arith, room-of (c .before .before .before .before)))
+
+cast-result-5 : tie.Need-cast-result-5
+cast-result-5 c = rw (turned c) (omega (arith, room-of (c .before .before .before .before)))
+
+returns : tie.Need-returns
+unfolding shift-value
+returns c = rw (c .enum-told .given .1) (omega arith)
+
+returns-2 : tie.Need-returns-2
+unfolding shift-value
+returns-2 c = rw (c .before .before .before .enum-told2 .given .1, ← c .before .before .bit .ensures, c .before .if1 .taken, c .weight .ensures)
+
+returns-3 : tie.Need-returns-3
+unfolding shift-value
+returns-3 c = rw (c .before .before .enum-told2 .given .1, ← c .before .bit .ensures, c .if1 .left) (omega arith)
+
+returns-4 : tie.Need-returns-4
+unfolding shift-value
+returns-4 c = rw (c .enum-told3 .given .1)
+
+returns-5 : tie.Need-returns-5
+unfolding shift-value
+returns-5 c = rw (c .before .before .enum-told4 .given .1, turned c)
+
+pub shift-value-spec : {M : Type 1} → statement M
+shift-value-spec =
+    tie.close
+    (tie.spec
+    shr-high
+    enum-told
+    shl-result
+    cast-result
+    enum-told-2
+    bit-requires
+    sub-weight
+    weight-requires
+    sub-result
+    add-result
+    cast-result-2
+    cast-result-3
+    enum-told-3
+    cast-result-4
+    enum-told-4
+    weight-requires-2
+    sub-result-2
+    sub-weight-2
+    weight-requires-3
+    mul-result
+    add-result-2
+    cast-result-5
+    returns
+    returns-2
+    returns-3
+    returns-4
+    returns-5)

@@ -1,0 +1,57 @@
+-- Entries are taken exactly when document 01 says.
+use Prim.Native.Nat.{ℕ, _+_, _%_, _≤_, _<_}
+use mathlib.Core.Path.{_≡_}
+use mathlib.Core.Bool.{Bool, true, false}
+use mathlib.Core.Logic.{_↔_}
+use Rattle.bits.specs.Bits.{bit}
+use Rattle.psi.specs.declared.Psi.{Psi}
+use Rattle.psi.specs.Clock.{advanced}
+use Rattle.psi.specs.Pins.{parted, requested}
+use Rattle.machine.specs.declared.State.{State}
+use Rattle.machine.specs.State.{Machine, no-sample}
+use Rattle.machine.specs.declared.Kind.{Kind}
+use Rattle.machine.specs.declared.Kind.the-variants.{Reset as was-reset, Load as was-load, Level as was-level}
+use Rattle.machine.specs.Step.{step}
+
+-- request n is the lowest that is both enabled and active
+pub record Lowest (s : Psi) (v n : ℕ) : Type 0 where
+  pub from-1 : 0 < n
+  pub to-15 : n < 16
+  pub is-requested : requested s v n ≡ true
+  pub none-lower : (k : ℕ) → 0 < k → k < n → requested s v k ≡ false
+
+-- the same at a step with a pin record: after the clock has advanced, at the record's levels
+abbrev pub Lowest-at : ℕ → Machine → ℕ → Type 0
+Lowest-at word m n = Lowest (advanced (parted word .cycles) (m .state .psi)) (parted word .levels) n
+
+-- requests are sampled at this step
+abbrev pub Sampled : Machine → Type 0
+Sampled m = bit no-sample (m .state .flags) ≡ false
+
+-- the lowest request stands for level k, from 1 to 4, and the mask admits it
+abbrev pub Admitted : ℕ → Machine → ℕ → Type 0
+Admitted word m k =
+    (n : ℕ) × Lowest-at word m n × (n % 8 ≡ k + 2) × (1 ≤ k) × (k ≤ 4) × (k ≤ m .state .st % 16)
+
+-- Where requests are sampled, level k is entered exactly if the lowest request stands for it and the mask admits it.
+abbrev pub Levels-exactly : Type 0
+Levels-exactly =
+    (word : ℕ) (m : Machine) (k : ℕ) → Sampled m → (step word m .value ≡ was-level k) ↔ Admitted word m k
+
+-- Where they are not sampled, no level and no LOAD is entered.
+abbrev pub None-unsampled : Type 0
+None-unsampled =
+    (word : ℕ) (m : Machine) (k : ℕ)
+    → bit no-sample (m .state .flags) ≡ true
+    → (step word m .value ≡ was-level k → ⊥) × (step word m .value ≡ was-load → ⊥)
+
+-- LOAD is entered exactly if the lowest request's number is 2 modulo 8 and requests are sampled.
+abbrev pub Load-exactly : Type 0
+Load-exactly =
+    (word : ℕ) (m : Machine)
+    → (step word m .value ≡ was-load) ↔ (Sampled m × ((n : ℕ) × Lowest-at word m n × (n % 8 ≡ 2)))
+
+-- Reset is entered, at every boundary, exactly if the lowest request's number is 0 or 1 modulo 8.
+abbrev pub Reset-exactly : Type 0
+Reset-exactly =
+    (word : ℕ) (m : Machine) → (step word m .value ≡ was-reset) ↔ ((n : ℕ) × Lowest-at word m n × (n % 8 < 2))

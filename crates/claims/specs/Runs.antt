@@ -1,0 +1,55 @@
+-- Runs in parts, and refused runs.
+use Prim.Native.Nat.{ℕ, _+_, _≤_}
+use mathlib.Core.Path.{_≡_}
+use mathlib.Core.List.{List}
+use lib.ListN.{length, drop}
+use Rattle.machine.specs.declared.State.{State}
+use Rattle.machine.specs.declared.RunAnswer.{RunAnswer}
+use Rattle.machine.specs.Run.{RunResult, run-refusal, run}
+
+-- a first run, and then a second one: counts are summed
+abbrev pub joined : RunAnswer → RunResult → RunResult
+joined first second =
+    record {
+      answer = record {
+        number = second .answer .number;
+        state = second .answer .state;
+        steps = first .steps + second .answer .steps;
+        unassigned = first .unassigned + second .answer .unassigned;
+      };
+      memory = second .memory;
+    }
+
+-- Where a + b records are there, running a, then b steps on the unused records with the same stop address, is running a + b.
+abbrev pub Runs-in-parts : Type 0
+Runs-in-parts =
+    (m : List ℕ) (s : State) (records : List ℕ) (a b stop : ℕ)
+    → a + b ≤ length records
+    → run m s records (a + b) stop
+    ≡ joined (run m s records a stop .answer)
+    (run (run m s records a stop .memory) (run m s records a stop .answer .state)
+    (drop (run m s records a stop .answer .steps) records) b stop)
+
+-- A refused run answers the table's number, returns the state as given, reports no steps, and changes no byte.
+abbrev pub Refused-runs : Type 0
+Refused-runs =
+    (m : List ℕ) (s : State) (records : List ℕ) (steps stop : ℕ)
+    → (run-refusal m s records steps ≡ 0 → ⊥)
+    → run m s records steps stop
+    ≡ record {
+      answer = record { number = run-refusal m s records steps; state = s; steps = 0; unassigned = 0 };
+      memory = m;
+    }
+
+-- A run is accepted exactly if the table names no refusal.
+abbrev pub Accepted-exactly : Type 0
+Accepted-exactly =
+    (m : List ℕ) (s : State) (records : List ℕ) (steps stop : ℕ)
+    → run m s records steps stop .answer .number ≡ run-refusal m s records steps
+
+-- The steps done are at most the steps asked.
+abbrev pub Steps-at-most : Type 0
+Steps-at-most =
+    (m : List ℕ) (s : State) (records : List ℕ) (steps stop : ℕ)
+    → (run m s records steps stop .answer .steps ≤ steps)
+    × (run m s records steps stop .answer .unassigned ≤ run m s records steps stop .answer .steps)

@@ -1,0 +1,1 @@
+// No code: theorems about the definitions of steps and runs, in specs/ and proofs/.

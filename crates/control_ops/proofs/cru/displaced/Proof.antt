@@ -1,0 +1,27 @@
+-- Two steps that wrap lead where their sum does.
+use native.Mathlib.Nat.{mod-add-mod, add-assoc}
+use Rattle.psi.specs.Cru.{beyond, displacement}
+use borrow.Author.Tests.{lt-ltb, le-ltb}
+use borrow.Author.Needs.{needs}
+use Rattle.control_ops.proofs.cru.displaced.Statement.{statement}
+use Rattle.control_ops.proofs.cru.displaced.Tie as tie
+
+plus-requires : tie.Need-plus-requires
+plus-requires c κs = search needs
+
+sub-plus : tie.Need-sub-plus
+sub-plus c = search needs
+
+plus-requires-2 : tie.Need-plus-requires-2
+plus-requires-2 c κs = search needs
+
+returns : tie.Need-returns
+unfolding beyond displacement
+returns c = simp (lt-ltb _ _ (c .if1 .taken)) (c .before .plus .ensures)
+
+returns-2 : tie.Need-returns-2
+unfolding beyond displacement
+returns-2 c = simp (le-ltb _ _ (c .before .if1 .left)) (rw (c .plus2 .ensures, c .before .before .plus .ensures, mod-add-mod, add-assoc))
+
+pub displaced-spec : {M : Type 1} → statement M
+displaced-spec = tie.close (tie.spec plus-requires sub-plus plus-requires-2 returns returns-2)

@@ -1,0 +1,59 @@
+-- Each arm is the one access of the operation; TB then makes EQ what was read.
+use Rattle.machine.proofs.Bind.{perform-bind}
+use mathlib.Core.Path.{sym}
+use Rattle.machine.specs.Groups.{reach, set-equal}
+use borrow.Author.Needs.{needs}
+use Rattle.control_ops.proofs.cru.reach.Statement.{statement}
+use Rattle.control_ops.proofs.cru.reach.Tie as tie
+
+enum-told : tie.Need-enum-told
+enum-told c = search needs
+
+drive-requires : tie.Need-drive-requires
+drive-requires c κs = search needs
+
+enum-told-2 : tie.Need-enum-told-2
+enum-told-2 c = search needs
+
+drive-requires-2 : tie.Need-drive-requires-2
+drive-requires-2 c κs = search needs
+
+enum-told-3 : tie.Need-enum-told-3
+enum-told-3 c = search needs
+
+sense-requires : tie.Need-sense-requires
+sense-requires c κs = search needs
+
+put-requires : tie.Need-put-requires
+put-requires c κs = search needs
+
+set-status-requires : tie.Need-set-status-requires
+set-status-requires c κs = search needs
+
+returns : tie.Need-returns
+unfolding reach
+returns c m = rw (c .before .enum-told .given .1) (c .drive .ensures _ m)
+
+returns-2 : tie.Need-returns-2
+unfolding reach
+returns-2 c m = rw (c .before .enum-told2 .given .1) (c .drive2 .ensures _ m)
+
+returns-3 : tie.Need-returns-3
+unfolding reach set-equal
+returns-3 c m = rw (c .before .before .before .before .enum-told3 .given .1, perform-bind, c .before .before .before .sense .ensures m) (c .set-status .ensures _ m _ (sym (c .before .put .ensures)))
+
+pub reach-spec : {M : Type 1} → statement M
+reach-spec =
+    tie.close
+    (tie.spec
+    enum-told
+    drive-requires
+    enum-told-2
+    drive-requires-2
+    enum-told-3
+    sense-requires
+    put-requires
+    set-status-requires
+    returns
+    returns-2
+    returns-3)

@@ -1,0 +1,68 @@
+-- The invariant: the bits found so far, with those that are yet to come above them, are the number that the whole gives.
+use native.Mathlib.Nat.{sub-zero, mul-zero, add-zero}
+use mathlib.Core.Path.{_≡_, sym, _∙_}
+use Rattle.control_ops.proofs.Transfers.{gathered, gathered-none, weighed-below, below-word, sense-turn}
+use Prim.Native.Nat.{ℕ, suc, _+_, _-_, _^_, _<_, _≤_}
+use mathlib.Core.List.{List}
+use native.Mathlib.Omega.{arith}
+use Rattle.machine.specs.State.{at}
+use Rattle.machine.specs.Perform.{perform}
+use Rattle.machine.specs.Groups.{sense-bits}
+use Rattle.machine.proofs.Bind.{perform-done}
+use borrow.Author.Needs.{needs}
+use Rattle.control_ops.proofs.cru.sense_bits.Statement.{statement}
+use Rattle.control_ops.proofs.cru.sense_bits.Tie as tie
+
+abbrev Inv-loop : tie.InvT-loop
+Inv-loop levels count s₀ from₀ value₀ n₀ s from value n = (n ≤ count) × (value < 2 ^ n) × ((m : List ℕ) → perform levels (sense-bits count from₀) (at s₀ m) ≡ gathered value n (perform levels (sense-bits (count - n) from) (at s m)))
+
+abbrev μ-loop : tie.MeasureT-loop
+μ-loop levels count s₀ from₀ value₀ n₀ s from value n = count - n
+
+loop-holds : tie.Need-loop-holds Inv-loop μ-loop
+loop-holds c = (search needs, search needs, λ m. sym (rw sub-zero (gathered-none _)))
+
+sense-requires : tie.Need-sense-requires Inv-loop μ-loop
+sense-requires c κs = search needs
+
+cast-value : tie.Need-cast-value Inv-loop μ-loop
+cast-value c = search needs
+
+shl-value : tie.Need-shl-value Inv-loop μ-loop
+shl-value c = search needs
+
+add-value : tie.Need-add-value Inv-loop μ-loop
+add-value c = record { fits = below-word (c .before .before .before .before .loop .n + 1) _ (omega arith) (weighed-below _ _ (c .before .before .sense .result .value) (omega arith) (c .before .before .before .before .loop .inv .1)) }
+
+plus-requires : tie.Need-plus-requires Inv-loop μ-loop
+plus-requires c κs = search needs
+
+add-n : tie.Need-add-n Inv-loop μ-loop
+add-n c = search needs
+
+loop-less : tie.Need-loop-less Inv-loop μ-loop
+loop-less c = search needs
+
+loop-again : tie.Need-loop-again Inv-loop μ-loop
+loop-again c = (search needs, weighed-below _ _ (c .before .before .before .sense .result .value) (omega arith) (c .before .before .before .before .before .loop .inv .1), λ m. let e : c .before .before .before .before .before .before .args .count - c .before .before .before .before .before .loop .n ≡ suc (c .before .before .before .before .before .before .args .count - (c .before .before .before .before .before .loop .n + 1)) = omega arith in (rw e at (c .before .before .before .before .before .loop .inv .2 m)) ∙ rw (c .plus .ensures) (sense-turn _ _ _ _ _ _ _ _ m (omega arith) (c .before .before .before .sense .ensures m)))
+
+returns : tie.Need-returns Inv-loop μ-loop
+unfolding sense-bits
+returns c m = let e : c .before .before .args .count - c .before .loop .n ≡ 0 = omega arith in (rw e at (c .before .loop .inv .2 m)) ∙ rw (perform-done, mul-zero, add-zero)
+
+pub sense-bits-spec : {M : Type 1} → statement M
+sense-bits-spec =
+    tie.close
+    (tie.spec
+    Inv-loop
+    μ-loop
+    loop-holds
+    sense-requires
+    cast-value
+    shl-value
+    add-value
+    plus-requires
+    add-n
+    loop-less
+    loop-again
+    returns)

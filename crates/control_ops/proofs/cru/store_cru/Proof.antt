@@ -1,0 +1,40 @@
+-- The address, R12, the bits and the result: the calls in the definition's order.
+use Rattle.machine.proofs.Bind.{perform-bind}
+use Rattle.machine.specs.Groups.{store-cru}
+use borrow.Author.Needs.{needs}
+use Rattle.control_ops.proofs.cru.store_cru.Statement.{statement}
+use Rattle.control_ops.proofs.cru.store_cru.Tie as tie
+
+transfer-width-requires : tie.Need-transfer-width-requires
+transfer-width-requires c κs = search needs
+
+address-requires : tie.Need-address-requires
+address-requires c κs = search needs
+
+cru-base-requires : tie.Need-cru-base-requires
+cru-base-requires c κs = search needs
+
+sense-bits-requires : tie.Need-sense-bits-requires
+sense-bits-requires c κs = search needs
+
+conclude-judged-requires : tie.Need-conclude-judged-requires
+conclude-judged-requires c κs = search needs
+
+same-length : tie.Need-same-length
+same-length c = search needs
+
+returns : tie.Need-returns
+unfolding store-cru
+returns c = rw (← c .before .before .before .before .before .before .before .before .before .before .before .before .before .before .before .transfer-width .ensures, perform-bind, c .before .before .before .before .before .before .before .before .before .before .before .before .before .address .ensures _, perform-bind, c .before .before .before .before .before .before .before .before .cru-base .ensures _, perform-bind, c .before .before .before .before .before .sense-bits .ensures _) (c .before .before .conclude-judged .ensures _)
+
+pub store-cru-spec : {M : Type 1} → statement M
+store-cru-spec =
+    tie.close
+    (tie.spec
+    transfer-width-requires
+    address-requires
+    cru-base-requires
+    sense-bits-requires
+    conclude-judged-requires
+    same-length
+    returns)

@@ -1,0 +1,26 @@
+-- The condition is the definition's, and so is the target.
+use Rattle.machine.proofs.Bind.{perform-bind, perform-done, perform-registers}
+use Rattle.machine.specs.Groups.{jump}
+use borrow.Author.Needs.{needs}
+use Rattle.control_ops.proofs.jump.jump.Statement.{statement}
+use Rattle.control_ops.proofs.jump.jump.Tie as tie
+
+jumps-requires : tie.Need-jumps-requires
+jumps-requires c κs = search needs
+
+target-requires : tie.Need-target-requires
+target-requires c κs = search needs
+
+set-pc-requires : tie.Need-set-pc-requires
+set-pc-requires c κs = search needs
+
+returns : tie.Need-returns
+unfolding jump
+returns c v m = rw (perform-bind, perform-registers, ← c .before .before .before .jumps .ensures, c .before .before .if1 .taken, ← c .before .target .ensures) (c .set-pc .ensures v m)
+
+returns-2 : tie.Need-returns-2
+unfolding jump
+returns-2 c v m = rw (perform-bind, perform-registers, ← c .before .jumps .ensures, c .if1 .left, perform-done)
+
+pub jump-spec : {M : Type 1} → statement M
+jump-spec = tie.close (tie.spec jumps-requires target-requires set-pc-requires returns returns-2)

@@ -1,0 +1,167 @@
+-- The definitions pick one of a few shapes by tests, so what holds of every shape holds of every word; and a word is unassigned by the
+-- step of the definitions' tests at which it lies.
+use Prim.Native.Nat.{ℕ, _/_, _<_, _≤_}
+use mathlib.Core.Path.{_≡_, refl}
+use mathlib.Core.Bool.{Bool, true, false, and-false}
+use mathlib.Core.Logic.{_≢_}
+use native.Mathlib.Omega.{arith}
+use lib.Dec.{eqb, leb, ltb}
+use borrow.Author.Tests.{leb-true, leb-false, le-leb, lt-leb, lt-ltb, le-ltb, ne-eqb}
+use Rattle.bits.specs.Bits.{if_then_else_}
+use Rattle.isa.specs.declared.Instruction.{Instruction}
+use Rattle.isa.specs.declared.Instruction.the-variants.{Dual, Register, Xop, Transfer, Bit, Jump, Shift, Single, Blwp, X, Immediate, Stwp, Stst, Lwpi, Limi, Control, Unassigned}
+use Rattle.isa.specs.Isa.{source, destination, dual, with-register, with-displacement, shift, single, immediate, decoded, further-words}
+use Rattle.isa.specs.Words.{General, Fields, Fields-in-range, Two-further-words, is-unassigned, within, in-gaps, Unassigned-exactly}
+use Rattle.isa.proofs.Laws.{operand-words-at-most}
+
+-- what holds of both arms holds of the choice
+both : (P : Instruction → Type 0) (b : Bool) {x y : Instruction} → P x → P y → P (if b then x else y)
+both P true p q = p
+both P false p q = q
+
+-- the fields
+
+general : (w : ℕ) → General (source w)
+unfolding source
+general w = omega arith
+
+with-register-fields : (w : ℕ) → Fields (with-register w)
+unfolding with-register
+with-register-fields w =
+    both Fields (eqb (w / 1024) 11) (general w, omega arith)
+    (both Fields (eqb (w / 1024) 12) (general w, omega arith)
+    (both Fields (eqb (w / 1024) 13) (general w, omega arith) (general w, omega arith)))
+
+single-fields : (w : ℕ) → Fields (single w)
+unfolding single
+single-fields w =
+    both Fields (ltb w 0x0780)
+    (both Fields (eqb (w / 64) 16) (general w) (both Fields (eqb (w / 64) 18) (general w) (general w)))
+    tt
+
+immediate-fields : (w : ℕ) → Fields (immediate w)
+unfolding immediate
+immediate-fields w =
+    both Fields (ltb w 0x02A0) (omega arith)
+    (both Fields (eqb (w / 32) 21) (omega arith)
+    (both Fields (eqb (w / 32) 22) (omega arith)
+    (both Fields (eqb (w / 32) 23) tt
+    (both Fields (eqb (w / 32) 24) tt
+    (both Fields (eqb (w / 32) 25) tt tt)))))
+
+pub fields-in-range : Fields-in-range
+unfolding decoded dual with-displacement shift destination
+fields-in-range w =
+    both Fields (leb 0x4000 w) (general w, general (w / 64))
+    (both Fields (leb 0x2000 w) (with-register-fields w)
+    (both Fields (leb 0x1000 w) (both Fields (ltb w 0x1D00) (omega arith) (omega arith))
+    (both Fields (leb 0x0800 w) (both Fields (ltb w 0x0C00) (omega arith) tt)
+    (both Fields (leb 0x0400 w) (single-fields w)
+    (both Fields (leb 0x0200 w) (immediate-fields w) tt)))))
+
+-- the further words
+
+pub two-further-words : Two-further-words
+unfolding further-words
+two-further-words (Dual o w s d) = omega (arith, operand-words-at-most s refl, operand-words-at-most d refl)
+two-further-words (Register o s r) = omega (arith, operand-words-at-most s refl)
+two-further-words (Xop s n) = omega (arith, operand-words-at-most s refl)
+two-further-words (Transfer o s n) = omega (arith, operand-words-at-most s refl)
+two-further-words (Bit o d) = omega arith
+two-further-words (Jump o d) = omega arith
+two-further-words (Shift o r n) = omega arith
+two-further-words (Single o s) = omega (arith, operand-words-at-most s refl)
+two-further-words (Blwp s) = omega (arith, operand-words-at-most s refl)
+two-further-words (X s) = omega (arith, operand-words-at-most s refl)
+two-further-words (Immediate o r) = omega arith
+two-further-words (Stwp r) = omega arith
+two-further-words (Stst r) = omega arith
+two-further-words Lwpi = omega arith
+two-further-words Limi = omega arith
+two-further-words (Control o) = omega arith
+two-further-words Unassigned = omega arith
+
+-- the unassigned words
+
+Assigned : Instruction → Type 0
+Assigned i = is-unassigned i ≡ false
+
+by-order : {P : Type 0} (a b : ℕ) → (a ≤ b → P) → (b < a → P) → P
+by-order {P} a b f g = by-test (leb a b) refl
+  where
+    by-test : (t : Bool) → leb a b ≡ t → P
+    by-test true e = f (leb-true a b e)
+    by-test false e = g (leb-false a b e)
+
+inside : (a b w : ℕ) → a ≤ w → w ≤ b → within a b w ≡ true
+unfolding within
+inside a b w h l = rw (le-leb a w h, le-leb w b l)
+
+below : (a b w : ℕ) → w < a → within a b w ≡ false
+unfolding within
+below a b w h = rw (lt-leb a w h)
+
+above : (a b w : ℕ) → b < w → within a b w ≡ false
+unfolding within
+above a b w h = rw (lt-leb w b h) (and-false (leb a w))
+
+-- 1000 and above: every word is assigned
+high : (w : ℕ) → 0x1000 ≤ w → is-unassigned (decoded w) ≡ in-gaps w
+unfolding Assigned is-unassigned decoded dual with-register with-displacement in-gaps
+high w h =
+    rw (above 0 0x01FF w (omega arith), above 0x0320 0x033F w (omega arith), above 0x0780 0x07FF w (omega arith), above 0x0C00 0x0FFF w h)
+    (both Assigned (leb 0x4000 w) refl
+    (both Assigned (leb 0x2000 w)
+    (both Assigned (eqb (w / 1024) 11) refl (both Assigned (eqb (w / 1024) 12) refl (both Assigned (eqb (w / 1024) 13) refl refl)))
+    (rw (le-leb 0x1000 w h) (both Assigned (ltb w 0x1D00) refl refl))))
+
+-- 0800 to 0FFF: the words from 0C00 on are not
+shifts : (w : ℕ) → 0x0800 ≤ w → w < 0x1000 → is-unassigned (decoded w) ≡ in-gaps w
+unfolding is-unassigned decoded shift in-gaps
+shifts w h l =
+    rw (lt-leb 0x4000 w (omega arith), lt-leb 0x2000 w (omega arith), lt-leb 0x1000 w l, le-leb 0x0800 w h)
+    (rw (above 0 0x01FF w (omega arith), above 0x0320 0x033F w (omega arith), above 0x0780 0x07FF w h)
+    (by-order 0x0C00 w
+    (λ g. rw (le-ltb w 0x0C00 g, inside 0x0C00 0x0FFF w g (omega arith)))
+    (λ g. rw (lt-ltb w 0x0C00 g, below 0x0C00 0x0FFF w g))))
+
+-- 0400 to 07FF: the words from 0780 on are not
+singles : (w : ℕ) → 0x0400 ≤ w → w < 0x0800 → is-unassigned (decoded w) ≡ in-gaps w
+unfolding Assigned is-unassigned decoded single in-gaps
+singles w h l =
+    rw (lt-leb 0x4000 w (omega arith), lt-leb 0x2000 w (omega arith), lt-leb 0x1000 w (omega arith), lt-leb 0x0800 w l, le-leb 0x0400 w h)
+    (rw (above 0 0x01FF w (omega arith), above 0x0320 0x033F w (omega arith), below 0x0C00 0x0FFF w (omega arith))
+    (by-order 0x0780 w
+    (λ g. rw (le-ltb w 0x0780 g, inside 0x0780 0x07FF w g (omega arith)))
+    (λ g. rw (lt-ltb w 0x0780 g, below 0x0780 0x07FF w g)
+    (both Assigned (eqb (w / 64) 16) refl (both Assigned (eqb (w / 64) 18) refl refl)))))
+
+-- 0200 to 03FF: those with the code 25 are not
+immediates : (w : ℕ) → 0x0200 ≤ w → w < 0x0400 → is-unassigned (decoded w) ≡ in-gaps w
+unfolding Assigned is-unassigned decoded immediate in-gaps
+immediates w h l =
+    rw (lt-leb 0x4000 w (omega arith), lt-leb 0x2000 w (omega arith), lt-leb 0x1000 w (omega arith), lt-leb 0x0800 w (omega arith), lt-leb 0x0400 w l, le-leb 0x0200 w h)
+    (rw (above 0 0x01FF w h, below 0x0780 0x07FF w (omega arith), below 0x0C00 0x0FFF w (omega arith))
+    (by-order 0x0340 w
+    (λ g. rw (above 0x0320 0x033F w g) (assigned (omega arith)))
+    (λ g. by-order 0x0320 w
+    (λ k. rw (inside 0x0320 0x033F w k (omega arith), le-ltb w 0x02A0 (omega arith), let e : w / 32 ≡ 25 = omega arith in e))
+    (λ k. rw (below 0x0320 0x033F w k) (assigned (omega arith))))))
+  where
+    assigned : w / 32 ≢ 25 → Assigned (immediate w)
+    assigned n =
+        both Assigned (ltb w 0x02A0) refl
+        (both Assigned (eqb (w / 32) 21) refl
+        (both Assigned (eqb (w / 32) 22) refl
+        (both Assigned (eqb (w / 32) 23) refl
+        (both Assigned (eqb (w / 32) 24) refl
+        (rw (ne-eqb (w / 32) 25 n))))))
+
+pub unassigned-exactly : Unassigned-exactly
+unfolding decoded is-unassigned in-gaps
+unassigned-exactly w =
+    by-order 0x1000 w (high w) (λ h.
+    by-order 0x0800 w (λ l. shifts w l h) (λ g.
+    by-order 0x0400 w (λ l. singles w l g) (λ k.
+    by-order 0x0200 w (λ l. immediates w l k) (λ z.
+    rw (lt-leb 0x4000 w (omega arith), lt-leb 0x2000 w (omega arith), lt-leb 0x1000 w h, lt-leb 0x0800 w g, lt-leb 0x0400 w k, lt-leb 0x0200 w z, inside 0 0x01FF w (omega arith) (omega arith))))))

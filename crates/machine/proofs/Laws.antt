@@ -1,0 +1,159 @@
+-- Laws of every microprogram, each by one induction over its accesses: only a store changes memory, and only `assign` and
+-- a fetch change WP and PC.
+use Prim.Native.Nat.{ℕ, _≤_}
+use mathlib.Core.Path.{_≡_, refl, sym, _∙_}
+use mathlib.Core.Bool.{Bool, true, false, _&&_, _||_}
+use native.Mathlib.Omega.{arith}
+use borrow.Author.Tests.{eqb-true, leb-true, eq-eqb, le-leb}
+use Rattle.memory.specs.declared.Width.the-variants.{Word}
+use Rattle.memory.specs.Memory.{loaded, covers, touched}
+use Rattle.memory.proofs.Laws.{stored-length, stored-bytes, stored-frame, covers-append}
+use Rattle.psi.specs.Cru as Cru
+use Rattle.psi.specs.Formed as Formed
+use Rattle.psi.proofs.Kept as Psi
+use Rattle.machine.specs.declared.State.{State}
+use Rattle.machine.specs.State.{Machine, registers, well-formed}
+use Rattle.machine.specs.Micro.{Micro, done, look, assign, fetch, read, write, sense, drive, Target, to-wp, to-pc, to-st, to-flags}
+use Rattle.machine.specs.Perform.{perform, accesses, written, after-assign, after-fetch, after-write, after-sense, after-drive, assigned}
+use Rattle.machine.specs.Laws.{Keeps-the-rest, Keeps-the-length, Keeps-bytes, Even, Keeps-even, Words, Keeps-words, Keeps-well-formed}
+
+-- both parts of a false disjunction are false
+or-left : (a b : Bool) → (a || b) ≡ false → a ≡ false
+or-left true b e = e
+or-left false b e = refl
+
+or-right : (a b : Bool) → (a || b) ≡ false → b ≡ false
+or-right true true e = e
+or-right true false e = refl
+or-right false b e = e
+
+pub keeps-the-rest : {A : Type 0} → Keeps-the-rest A
+unfolding perform accesses written
+keeps-the-rest v (done a) m i e = refl
+keeps-the-rest v (look k) m i e = keeps-the-rest v (k (registers (m .state))) m i e
+keeps-the-rest v (assign t x k) m i e = keeps-the-rest v k (after-assign t x m) i e
+keeps-the-rest v (fetch k) m i e = keeps-the-rest v (k (loaded Word (m .memory) (m .state .pc))) (after-fetch m) i e
+keeps-the-rest v (read w a k) m i e = keeps-the-rest v (k (loaded w (m .memory) a)) m i e
+keeps-the-rest v (write w a x k) m i e =
+    let f = sym (covers-append i (touched w a) (written (accesses v k (after-write w a x m)))) ∙ e in
+    keeps-the-rest v k (after-write w a x m) i (or-right (covers i (touched w a)) _ f)
+    ∙ stored-frame w (m .memory) a x i (or-left (covers i (touched w a)) _ f)
+keeps-the-rest v (sense b k) m i e =
+    keeps-the-rest v (k (Cru.sensed (m .state .psi) v b .value)) (after-sense v b m) i e
+keeps-the-rest v (drive b x k) m i e = keeps-the-rest v k (after-drive b x m) i e
+
+pub keeps-the-length : {A : Type 0} → Keeps-the-length A
+unfolding perform
+keeps-the-length v (done a) m = refl
+keeps-the-length v (look k) m = keeps-the-length v (k (registers (m .state))) m
+keeps-the-length v (assign t x k) m = keeps-the-length v k (after-assign t x m)
+keeps-the-length v (fetch k) m = keeps-the-length v (k (loaded Word (m .memory) (m .state .pc))) (after-fetch m)
+keeps-the-length v (read w a k) m = keeps-the-length v (k (loaded w (m .memory) a)) m
+keeps-the-length v (write w a x k) m = keeps-the-length v k (after-write w a x m) ∙ stored-length w (m .memory) a x
+keeps-the-length v (sense b k) m = keeps-the-length v (k (Cru.sensed (m .state .psi) v b .value)) (after-sense v b m)
+keeps-the-length v (drive b x k) m = keeps-the-length v k (after-drive b x m)
+
+pub keeps-bytes : {A : Type 0} → Keeps-bytes A
+unfolding perform
+keeps-bytes v (done a) m h = h
+keeps-bytes v (look k) m h = keeps-bytes v (k (registers (m .state))) m h
+keeps-bytes v (assign t x k) m h = keeps-bytes v k (after-assign t x m) h
+keeps-bytes v (fetch k) m h = keeps-bytes v (k (loaded Word (m .memory) (m .state .pc))) (after-fetch m) h
+keeps-bytes v (read w a k) m h = keeps-bytes v (k (loaded w (m .memory) a)) m h
+keeps-bytes v (write w a x k) m h = keeps-bytes v k (after-write w a x m) (stored-bytes w (m .memory) a x h)
+keeps-bytes v (sense b k) m h = keeps-bytes v (k (Cru.sensed (m .state .psi) v b .value)) (after-sense v b m) h
+keeps-bytes v (drive b x k) m h = keeps-bytes v k (after-drive b x m) h
+
+even-assigned : (t : Target) (x : ℕ) (m : Machine) → Even (m .state) → Even (assigned t x (m .state))
+even-assigned to-wp x m h = record { wp = omega arith; pc = h .pc }
+even-assigned to-pc x m h = record { wp = h .wp; pc = omega arith }
+even-assigned to-st x m h = record { wp = h .wp; pc = h .pc }
+even-assigned to-flags x m h = record { wp = h .wp; pc = h .pc }
+
+pub keeps-even : {A : Type 0} → Keeps-even A
+unfolding perform
+keeps-even v (done a) m h = h
+keeps-even v (look k) m h = keeps-even v (k (registers (m .state))) m h
+keeps-even v (assign t x k) m h = keeps-even v k (after-assign t x m) (even-assigned t x m h)
+keeps-even v (fetch k) m h =
+    keeps-even v (k (loaded Word (m .memory) (m .state .pc))) (after-fetch m) (record { wp = h .wp; pc = omega arith })
+keeps-even v (read w a k) m h = keeps-even v (k (loaded w (m .memory) a)) m h
+keeps-even v (write w a x k) m h = keeps-even v k (after-write w a x m) (record { wp = h .wp; pc = h .pc })
+keeps-even v (sense b k) m h =
+    keeps-even v (k (Cru.sensed (m .state .psi) v b .value)) (after-sense v b m) (record { wp = h .wp; pc = h .pc })
+keeps-even v (drive b x k) m h = keeps-even v k (after-drive b x m) (record { wp = h .wp; pc = h .pc })
+
+words-assigned : (t : Target) (x : ℕ) (m : Machine) → Words (m .state) → Words (assigned t x (m .state))
+words-assigned to-wp x m h = record { wp = omega arith; pc = h .pc; st = h .st; flags = h .flags; psi = h .psi }
+words-assigned to-pc x m h = record { wp = h .wp; pc = omega arith; st = h .st; flags = h .flags; psi = h .psi }
+words-assigned to-st x m h = record { wp = h .wp; pc = h .pc; st = omega arith; flags = h .flags; psi = h .psi }
+words-assigned to-flags x m h = record { wp = h .wp; pc = h .pc; st = h .st; flags = omega arith; psi = h .psi }
+
+pub keeps-words : {A : Type 0} → Keeps-words A
+unfolding perform
+keeps-words v (done a) m h = h
+keeps-words v (look k) m h = keeps-words v (k (registers (m .state))) m h
+keeps-words v (assign t x k) m h = keeps-words v k (after-assign t x m) (words-assigned t x m h)
+keeps-words v (fetch k) m h =
+    keeps-words v (k (loaded Word (m .memory) (m .state .pc))) (after-fetch m)
+    (record { wp = h .wp; pc = omega arith; st = h .st; flags = h .flags; psi = h .psi })
+keeps-words v (read w a k) m h = keeps-words v (k (loaded w (m .memory) a)) m h
+keeps-words v (write w a x k) m h = keeps-words v k (after-write w a x m) h
+keeps-words v (sense b k) m h =
+    keeps-words v (k (Cru.sensed (m .state .psi) v b .value)) (after-sense v b m)
+    (record { wp = h .wp; pc = h .pc; st = h .st; flags = h .flags; psi = Psi.kept-fits .read v b (h .psi) })
+keeps-words v (drive b x k) m h =
+    keeps-words v k (after-drive b x m)
+    (record { wp = h .wp; pc = h .pc; st = h .st; flags = h .flags; psi = Psi.kept-fits .write b x (h .psi) })
+
+-- what well-formedness says
+pub record Form (s : State) : Type 0 where
+  pub even : Even s
+  pub flags : s .flags ≤ 3
+  pub psi : Formed.well-formed (s .psi) ≡ true
+
+conjuncts : (a b : Bool) → (a && b) ≡ true → (a ≡ true) × (b ≡ true)
+conjuncts true b e = (refl, e)
+conjuncts false b e = (e, (cc))
+
+pub form : (s : State) → well-formed s ≡ true → Form s
+unfolding well-formed
+form s w =
+    let c1 = conjuncts _ _ w in
+    let c2 = conjuncts _ _ (c1 .1) in
+    let c3 = conjuncts _ _ (c2 .1) in
+    record {
+      even = record { wp = eqb-true _ _ (c1 .0); pc = eqb-true _ _ (c2 .0) };
+      flags = leb-true (s .flags) _ (c3 .0);
+      psi = c3 .1;
+    }
+
+pub formed : (s : State) → Form s → well-formed s ≡ true
+unfolding well-formed
+formed s f = rw (eq-eqb _ _ (f .even .wp), eq-eqb _ _ (f .even .pc), le-leb _ _ (f .flags)) (f .psi)
+
+form-assigned : (t : Target) (x : ℕ) (m : Machine) → Form (m .state) → Form (assigned t x (m .state))
+form-assigned to-wp x m f = record { even = even-assigned to-wp x m (f .even); flags = f .flags; psi = f .psi }
+form-assigned to-pc x m f = record { even = even-assigned to-pc x m (f .even); flags = f .flags; psi = f .psi }
+form-assigned to-st x m f = record { even = even-assigned to-st x m (f .even); flags = f .flags; psi = f .psi }
+form-assigned to-flags x m f = record { even = even-assigned to-flags x m (f .even); flags = omega arith; psi = f .psi }
+
+pub keeps-form : {A : Type 0} (v : ℕ) (p : Micro A) (m : Machine) → Form (m .state) → Form (perform v p m .machine .state)
+unfolding perform
+keeps-form v (done a) m f = f
+keeps-form v (look k) m f = keeps-form v (k (registers (m .state))) m f
+keeps-form v (assign t x k) m f = keeps-form v k (after-assign t x m) (form-assigned t x m f)
+keeps-form v (fetch k) m f =
+    keeps-form v (k (loaded Word (m .memory) (m .state .pc))) (after-fetch m)
+    (record { even = record { wp = f .even .wp; pc = omega arith }; flags = f .flags; psi = f .psi })
+keeps-form v (read w a k) m f = keeps-form v (k (loaded w (m .memory) a)) m f
+keeps-form v (write w a x k) m f = keeps-form v k (after-write w a x m) f
+keeps-form v (sense b k) m f =
+    keeps-form v (k (Cru.sensed (m .state .psi) v b .value)) (after-sense v b m)
+    (record { even = record { wp = f .even .wp; pc = f .even .pc }; flags = f .flags; psi = Psi.kept-formed .read v b (f .psi) })
+keeps-form v (drive b x k) m f =
+    keeps-form v k (after-drive b x m)
+    (record { even = record { wp = f .even .wp; pc = f .even .pc }; flags = f .flags; psi = Psi.kept-formed .write b x (f .psi) })
+
+pub keeps-well-formed : {A : Type 0} → Keeps-well-formed A
+keeps-well-formed v p m w = formed _ (keeps-form v p m (form (m .state) w))

@@ -1,0 +1,54 @@
+-- What holds of every microprogram, so of every step.
+use Prim.Native.Nat.{ℕ, _%_, _<_}
+use mathlib.Core.Path.{_≡_}
+use mathlib.Core.Bool.{Bool, true, false}
+use mathlib.Core.List.{List}
+use lib.ListN.{length, getD}
+use Rattle.memory.specs.Memory.{Bytes, covers}
+use Rattle.psi.specs.Kept.{Fits16}
+use Rattle.machine.specs.declared.State.{State}
+use Rattle.machine.specs.State.{Machine, well-formed}
+use Rattle.machine.specs.Micro.{Micro}
+use Rattle.machine.specs.Perform.{perform, accesses, written}
+
+-- A byte that is in no store of a microprogram keeps its value.
+abbrev pub Keeps-the-rest : Type 0 → Type 0
+Keeps-the-rest A =
+    (v : ℕ) (p : Micro A) (m : Machine) (i : ℕ)
+    → covers i (written (accesses v p m)) ≡ false
+    → getD (perform v p m .machine .memory) i 0 ≡ getD (m .memory) i 0
+
+-- The memory's length never changes.
+abbrev pub Keeps-the-length : Type 0 → Type 0
+Keeps-the-length A =
+    (v : ℕ) (p : Micro A) (m : Machine) → length (perform v p m .machine .memory) ≡ length (m .memory)
+
+-- Bytes stay below 256.
+abbrev pub Keeps-bytes : Type 0 → Type 0
+Keeps-bytes A = (v : ℕ) (p : Micro A) (m : Machine) → Bytes (m .memory) → Bytes (perform v p m .machine .memory)
+
+-- WP and PC are even
+pub record Even (s : State) : Type 0 where
+  pub wp : s .wp % 2 ≡ 0
+  pub pc : s .pc % 2 ≡ 0
+
+-- WP and PC stay even.
+abbrev pub Keeps-even : Type 0 → Type 0
+Keeps-even A = (v : ℕ) (p : Micro A) (m : Machine) → Even (m .state) → Even (perform v p m .machine .state)
+
+-- every field is a number of 16 bits, as the code's types have it
+pub record Words (s : State) : Type 0 where
+  pub wp : s .wp < 65536
+  pub pc : s .pc < 65536
+  pub st : s .st < 65536
+  pub flags : s .flags < 65536
+  pub psi : Fits16 (s .psi)
+
+-- Fields stay numbers of 16 bits.
+abbrev pub Keeps-words : Type 0 → Type 0
+Keeps-words A = (v : ℕ) (p : Micro A) (m : Machine) → Words (m .state) → Words (perform v p m .machine .state)
+
+-- A well-formed state stays well formed.
+abbrev pub Keeps-well-formed : Type 0 → Type 0
+Keeps-well-formed A =
+    (v : ℕ) (p : Micro A) (m : Machine) → well-formed (m .state) ≡ true → well-formed (perform v p m .machine .state) ≡ true
