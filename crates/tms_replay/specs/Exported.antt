@@ -1,12 +1,11 @@
 -- The calls as C, Fortran and Rust see them: a state is twelve words in a lent slice, a refusal of our own comes before all others.
 use Prim.Native.Nat.{ℕ}
-use mathlib.Core.Bool.{Bool, _&&_}
+use mathlib.Core.Bool.{_&&_}
 use mathlib.Core.List.{List, [], _∷_}
 use lib.ListN.{length, getD}
 use lib.Dec.{eqb}
 use Rattle.bits.specs.Bits.{if_then_else_}
 use Rattle.machine.specs.declared.State.{State}
-use Rattle.machine.specs.declared.StateAnswer.{StateAnswer}
 use Rattle.machine.specs.Run as Run
 use Rattle.image.specs.Image as Image
 use Rattle.image.specs.Calls as Calls
