@@ -61,19 +61,30 @@ fn replay(before: &[u8], file: &[u8], out: &[u8]) {
     finish(out, answer, &lent);
 }
 
+// The replay of what was read: so many bytes of the two buffers.
+fn replay_read(before: &[u8], n: usize, file: &[u8], m: usize, out: &[u8]) {
+    if n > before.len() {
+        return;
+    }
+    if m > file.len() {
+        return;
+    }
+    replay(&before[..n], &file[..m], out);
+}
+
 // Reads both files; a byte more than an image is enough to see that a file is too long.
 fn replay_files_at(image_path: &[u8], pins_path: &[u8], out: &[u8]) {
     let mut before = [0u8; 17409];
     let n = files::load(image_path, &mut before);
-    if n > 17409 {
+    if n == files::FAILED {
         return;
     }
     let mut file = [0u8; 65536];
     let m = files::load(pins_path, &mut file);
-    if m > 65536 {
+    if m == files::FAILED {
         return;
     }
-    replay(&before[..n], &file[..m], out);
+    replay_read(&before, n, &file, m, out);
 }
 
 fn main() {

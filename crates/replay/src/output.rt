@@ -96,13 +96,23 @@ fn fill(fd: i32, path: &[u8], bytes: &[u8]) -> bool {
     true
 }
 
-// Puts the filled temporary in the output's place.
-fn settle(temporary: &[u8], path: &[u8]) -> bool {
-    if os::rename(temporary, path) < 0 {
+// Puts the filled temporary, whose name is the first `end` bytes, in the output's place.
+fn settle(name: &[u8], end: usize, path: &[u8]) -> bool {
+    if end > name.len() {
+        return false;
+    }
+    if os::rename(&name[..end], path) < 0 {
         os::fail(path);
         return false;
     }
     true
+}
+
+// Removes the temporary.
+fn discard(name: &[u8], end: usize) {
+    if end <= name.len() {
+        os::unlink(&name[..end]);
+    }
 }
 
 // Puts the bytes in the file's place at once. Where that fails, says so, and the file stays as it was.
@@ -118,10 +128,10 @@ pub fn replace(path: &[u8], bytes: &[u8]) -> bool {
         return false;
     }
     if fill(fd, path, bytes) {
-        if settle(&name[..end], path) {
+        if settle(&name, end, path) {
             return true;
         }
     }
-    os::unlink(&name[..end]);
+    discard(&name, end);
     false
 }

@@ -4,8 +4,6 @@ use Prim.Native.Nat.{_≤_}
 use lib.ListN.{length}
 use Rattle.replay.proofs.output.last_part.Statement.{statement}
 use Rattle.replay.proofs.output.last_part.Tie as tie
-use Rattle.replay.proofs.output.last_part.Reads as reads
-use Rattle.replay.proofs.output.last_part.Lts as lts
 
 abbrev Inv-loop : tie.InvT-loop
 Inv-loop path at₀ at = at ≤ length path
@@ -13,35 +11,27 @@ Inv-loop path at₀ at = at ≤ length path
 abbrev μ-loop : tie.MeasureT-loop
 μ-loop path at₀ at = at
 
--- src/output.rt:32:5
 loop-holds : tie.Need-loop-holds Inv-loop μ-loop
 loop-holds c = search needs
 
--- src/output.rt:33:17
 sub-if1 : tie.Need-sub-if1 Inv-loop μ-loop
 sub-if1 c = search needs
 
--- src/output.rt:33:12
 shared-slice-read-if1 : tie.Need-shared-slice-read-if1 Inv-loop μ-loop
 shared-slice-read-if1 c = search needs
 
--- src/output.rt:34:13
 returns : tie.Need-returns Inv-loop μ-loop
 returns c = search needs
 
--- src/output.rt:36:9
 sub-at : tie.Need-sub-at Inv-loop μ-loop
 sub-at c = search needs
 
--- src/output.rt:32:5
 loop-less : tie.Need-loop-less Inv-loop μ-loop
 loop-less c = search needs
 
--- src/output.rt:32:5
 loop-again : tie.Need-loop-again Inv-loop μ-loop
 loop-again c = search needs
 
--- src/output.rt:28:1
 returns-2 : tie.Need-returns-2 Inv-loop μ-loop
 returns-2 c = search needs
 

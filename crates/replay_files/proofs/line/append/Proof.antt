@@ -7,31 +7,22 @@ use Rattle.replay_files.proofs.Numbers.{appended, appended-length}
 use borrow.Author.Needs.{needs}
 use Rattle.replay_files.proofs.line.append.Statement.{statement}
 use Rattle.replay_files.proofs.line.append.Tie as tie
-use Rattle.replay_files.proofs.line.append.Reads as reads
-use Rattle.replay_files.proofs.line.append.Lts as lts
-use Rattle.bytes.proofs.copy.Reads as copy-reads
 
--- src/line.rt:46:14
 add-to : tie.Need-add-to
 add-to c = search needs
 
--- src/line.rt:47:23
 sub-copy : tie.Need-sub-copy
 sub-copy c = search needs
 
--- src/line.rt:47:23
 part-bytes-start : tie.Need-part-bytes-start
 part-bytes-start c = search needs
 
--- src/line.rt:47:23
 part-bytes-end : tie.Need-part-bytes-end
 part-bytes-end c = omega arith
 
--- src/line.rt:47:5
 copy-requires : tie.Need-copy-requires
 copy-requires c κs = search needs
 
--- src/line.rt:39:1
 returns : tie.Need-returns
 returns c =
     let a = c .before .before .before .before .before .args in

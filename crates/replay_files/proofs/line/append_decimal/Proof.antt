@@ -8,24 +8,16 @@ use Rattle.replay_files.proofs.Numbers.{fewest-one, fewest-places, plac
 use borrow.Author.Needs.{needs}
 use Rattle.replay_files.proofs.line.append_decimal.Statement.{statement}
 use Rattle.replay_files.proofs.line.append_decimal.Tie as tie
-use Rattle.replay_files.proofs.line.append_decimal.Reads as reads
-use Rattle.replay_files.proofs.line.append_decimal.Lts as lts
-use Rattle.io.proofs.decimal.Reads as decimal-reads
-use Rattle.replay_files.proofs.line.append.Reads as append-reads
 
--- src/line.rt:58:9
 decimal-requires : tie.Need-decimal-requires
 decimal-requires c κs = search needs
 
--- src/line.rt:59:18
 array-share-prefix-digits : tie.Need-array-share-prefix-digits
 array-share-prefix-digits c = search needs
 
--- src/line.rt:59:18
 slice-aggregate-append : tie.Need-slice-aggregate-append
 slice-aggregate-append c = search needs
 
--- src/line.rt:59:5
 append-requires : tie.Need-append-requires
 append-requires c κs =
     let d = c .before .decimal in
@@ -34,7 +26,6 @@ append-requires c κs =
     let few : length (take (d .result) (d .last .1 .0)) ≤ 20 = rw (length-take (d .result) (d .last .1 .0)) (omega (arith, same, places-few n)) in
     (omega arith, omega (arith, few))
 
--- src/line.rt:52:1
 returns : tie.Need-returns
 unfolding decimal
 returns c =

@@ -3,24 +3,16 @@ use Rattle.replay_files.specs.Line.{hex}
 use borrow.Author.Needs.{needs}
 use Rattle.replay_files.proofs.line.append_hex.Statement.{statement}
 use Rattle.replay_files.proofs.line.append_hex.Tie as tie
-use Rattle.replay_files.proofs.line.append_hex.Reads as reads
-use Rattle.replay_files.proofs.line.append_hex.Lts as lts
-use Rattle.replay_files.proofs.line.append.Reads as append-reads
-use Rattle.replay_files.proofs.line.hex.Reads as hex-reads
 
--- src/line.rt:68:18
 hex-requires : tie.Need-hex-requires
 hex-requires c κs = search needs
 
--- src/line.rt:69:18
 slice-aggregate-append : tie.Need-slice-aggregate-append
 slice-aggregate-append c = search needs
 
--- src/line.rt:69:5
 append-requires : tie.Need-append-requires
 append-requires c κs = search needs
 
--- src/line.rt:63:1
 returns : tie.Need-returns
 unfolding hex
 returns c = (c .append .ensures .0, (rw (c .append .ensures .1 .0, c .before .before .hex .ensures), rw (c .append .ensures .1 .1, c .before .before .hex .ensures)))

@@ -4,31 +4,23 @@ use Rattle.replay_files.specs.Line.{glyph}
 use borrow.Author.Needs.{needs}
 use Rattle.replay_files.proofs.line.glyph.Statement.{statement}
 use Rattle.replay_files.proofs.line.glyph.Tie as tie
-use Rattle.replay_files.proofs.line.glyph.Reads as reads
-use Rattle.replay_files.proofs.line.glyph.Lts as lts
 
--- src/line.rt:21:21
 cast-result : tie.Need-cast-result
 cast-result c = search needs
 
--- src/line.rt:21:16
 add-result : tie.Need-add-result
 add-result c = search needs
 
--- src/line.rt:21:9
 returns : tie.Need-returns
 unfolding glyph
 returns c = simp (lt-ltb _ _ (c .if1 .taken))
 
--- src/line.rt:23:10
 cast-result-2 : tie.Need-cast-result-2
 cast-result-2 c = search needs
 
--- src/line.rt:23:5
 add-result-2 : tie.Need-add-result-2
 add-result-2 c = search needs
 
--- src/line.rt:16:1
 returns-2 : tie.Need-returns-2
 unfolding glyph
 returns-2 c = simp (le-ltb _ _ (c .if1 .left))

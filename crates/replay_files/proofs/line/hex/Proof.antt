@@ -3,27 +3,19 @@ use Rattle.replay_files.specs.Line.{hex}
 use borrow.Author.Needs.{needs}
 use Rattle.replay_files.proofs.line.hex.Statement.{statement}
 use Rattle.replay_files.proofs.line.hex.Tie as tie
-use Rattle.replay_files.proofs.line.hex.Reads as reads
-use Rattle.replay_files.proofs.line.hex.Lts as lts
-use Rattle.replay_files.proofs.line.glyph.Reads as glyph-reads
 
--- src/line.rt:31:9
 glyph-requires : tie.Need-glyph-requires
 glyph-requires c κs = search needs
 
--- src/line.rt:32:9
 glyph-requires-2 : tie.Need-glyph-requires-2
 glyph-requires-2 c κs = search needs
 
--- src/line.rt:33:9
 glyph-requires-3 : tie.Need-glyph-requires-3
 glyph-requires-3 c κs = search needs
 
--- src/line.rt:34:9
 glyph-requires-4 : tie.Need-glyph-requires-4
 glyph-requires-4 c κs = search needs
 
--- src/line.rt:27:1
 returns : tie.Need-returns
 unfolding hex
 returns c = rw (c .before .before .before .glyph .ensures, c .before .before .glyph2 .ensures, c .before .glyph3 .ensures, c .glyph4 .ensures)

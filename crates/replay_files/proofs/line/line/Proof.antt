@@ -8,20 +8,13 @@ use Rattle.replay_files.specs.Line.{text}
 use borrow.Author.Needs.{needs}
 use Rattle.replay_files.proofs.line.line.Statement.{statement}
 use Rattle.replay_files.proofs.line.line.Tie as tie
-use Rattle.replay_files.proofs.line.line.Reads as reads
-use Rattle.replay_files.proofs.line.line.Lts as lts
-use Rattle.replay_files.proofs.line.counts.Reads as counts-reads
-use Rattle.replay_files.proofs.line.registers.Reads as registers-reads
 
--- src/line.rt:112:15
 counts-requires : tie.Need-counts-requires
 counts-requires c κs = search needs
 
--- src/line.rt:112:5
 registers-requires : tie.Need-registers-requires
 registers-requires c κs = search needs
 
--- src/line.rt:108:1
 returns : tie.Need-returns
 unfolding text
 returns c =

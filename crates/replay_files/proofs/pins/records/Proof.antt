@@ -1,6 +1,6 @@
 -- `records` meets its contract: each turn puts the next record in its place.
-use Prim.Native.Nat.{ℕ, _+_, _-_, _*_, _/_, _≤_, min}
-use mathlib.Core.Path.{_≡_, refl, sym, ap, _∙_}
+use Prim.Native.Nat.{ℕ, _-_, _/_, _≤_, min}
+use mathlib.Core.Path.{_≡_, refl, sym, _∙_}
 use mathlib.Core.List.{List, _++_}
 use native.Mathlib.Omega.{arith}
 use borrow.Author.Needs.{needs}
@@ -10,10 +10,6 @@ use Rattle.replay_files.specs.Pins as Pins
 use Rattle.replay_files.proofs.Words.{records-length, records-at, next-put}
 use Rattle.replay_files.proofs.pins.records.Statement.{statement}
 use Rattle.replay_files.proofs.pins.records.Tie as tie
-use Rattle.replay_files.proofs.pins.records.Reads as reads
-use Rattle.replay_files.proofs.pins.records.Lts as lts
-use Rattle.replay_files.proofs.pins.record_count.Reads as record-count-reads
-use Rattle.replay_files.proofs.pins.word.Reads as word-reads
 
 abbrev Inv-loop : tie.InvT-loop
 Inv-loop file records₀ n i₀ records i =
@@ -22,73 +18,56 @@ Inv-loop file records₀ n i₀ records i =
 abbrev μ-loop : tie.MeasureT-loop
 μ-loop file records₀ n i₀ records i = n - i
 
--- src/pins.rt:55:9
 record-count-requires : tie.Need-record-count-requires Inv-loop μ-loop
 record-count-requires c κs = search needs
 
--- src/pins.rt:57:5
 loop-holds : tie.Need-loop-holds Inv-loop μ-loop
 loop-holds c =
     let count = c .record-count .ensures .1 in
     (omega arith, count, count ∙ records-length _, refl)
 
--- src/pins.rt:58:18
 mul-at : tie.Need-mul-at Inv-loop μ-loop
 mul-at c = omega arith
 
--- src/pins.rt:58:18
 add-at : tie.Need-add-at Inv-loop μ-loop
 add-at c = omega arith
 
--- src/pins.rt:59:27
 shared-slice-read-word : tie.Need-shared-slice-read-word Inv-loop μ-loop
 shared-slice-read-word c = omega arith
 
--- src/pins.rt:59:42
 add-word : tie.Need-add-word Inv-loop μ-loop
 add-word c = omega arith
 
--- src/pins.rt:59:37
 shared-slice-read-word-2 : tie.Need-shared-slice-read-word-2 Inv-loop μ-loop
 shared-slice-read-word-2 c = omega arith
 
--- src/pins.rt:59:56
 add-word-2 : tie.Need-add-word-2 Inv-loop μ-loop
 add-word-2 c = omega arith
 
--- src/pins.rt:59:51
 shared-slice-read-word-3 : tie.Need-shared-slice-read-word-3 Inv-loop μ-loop
 shared-slice-read-word-3 c = omega arith
 
--- src/pins.rt:59:70
 add-word-3 : tie.Need-add-word-3 Inv-loop μ-loop
 add-word-3 c = omega arith
 
--- src/pins.rt:59:65
 shared-slice-read-word-4 : tie.Need-shared-slice-read-word-4 Inv-loop μ-loop
 shared-slice-read-word-4 c = omega arith
 
--- src/pins.rt:59:22
 word-requires : tie.Need-word-requires Inv-loop μ-loop
 word-requires c κs = search needs
 
--- src/pins.rt:59:9
 mul-records : tie.Need-mul-records Inv-loop μ-loop
 mul-records c = omega arith
 
--- src/pins.rt:59:9
 array-write-records : tie.Need-array-write-records Inv-loop μ-loop
 array-write-records c = omega arith
 
--- src/pins.rt:60:9
 add-i : tie.Need-add-i Inv-loop μ-loop
 add-i c = omega arith
 
--- src/pins.rt:57:5
 loop-less : tie.Need-loop-less Inv-loop μ-loop
 loop-less c = omega arith
 
--- src/pins.rt:57:5
 loop-again : tie.Need-loop-again Inv-loop μ-loop
 loop-again c =
     let l = c .before .before .before .before .before .before in
@@ -98,7 +77,6 @@ loop-again c =
     let here : c .word .result ≡ getD all i 0 = c .word .ensures ∙ sym (records-at file i (omega arith)) in
     (omega arith, l .loop .inv .1, l .loop .inv .2, next-put (replicate Pins.most 0) all (l .loop .records) i (c .word .result) (rw (length-replicate Pins.most) (omega arith)) (omega arith) (l .loop .inv .3) here)
 
--- src/pins.rt:51:1
 returns : tie.Need-returns Inv-loop μ-loop
 returns c =
     let l = c .before in

@@ -5,27 +5,19 @@ use Rattle.replay_files.proofs.Words.{stop-none, stop-some}
 use borrow.Author.Needs.{needs}
 use Rattle.replay_files.proofs.pins.stop.Statement.{statement}
 use Rattle.replay_files.proofs.pins.stop.Tie as tie
-use Rattle.replay_files.proofs.pins.stop.Reads as reads
-use Rattle.replay_files.proofs.pins.stop.Lts as lts
-use Rattle.memory.proofs.word.Reads as word-reads
 
--- src/pins.rt:29:9
 returns : tie.Need-returns
 returns c = sym (stop-none _ (omega arith))
 
--- src/pins.rt:31:18
 shared-slice-read-word : tie.Need-shared-slice-read-word
 shared-slice-read-word c = search needs
 
--- src/pins.rt:31:27
 shared-slice-read-word-2 : tie.Need-shared-slice-read-word-2
 shared-slice-read-word-2 c = search needs
 
--- src/pins.rt:31:5
 word-requires : tie.Need-word-requires
 word-requires c κs = search needs
 
--- src/pins.rt:25:1
 returns-2 : tie.Need-returns-2
 returns-2 c = c .word .ensures ∙ stop-some (c .before .before .before .before .before .args .file .now) (omega arith) (omega (arith, c .before .before .shared-slice-known2 .given 2)) (omega (arith, c .before .shared-slice-known3 .given 3))
 
