@@ -9,6 +9,7 @@ pub mod cpu;
 pub mod image;
 pub mod psi;
 pub mod run;
+pub mod sample;
 pub mod seeds;
 pub mod state;
 pub mod table;

@@ -1,5 +1,6 @@
 //! `oracle replay IMAGE PINS OUT`: reads an image and a pin file, runs, writes
 //! the image after, and prints one line.
+//! `oracle sample FOLDER`: writes the stored samples below a folder.
 //! `oracle table SEED COUNT`: prints a table of random steps for the checker.
 
 use std::ffi::OsString;
@@ -19,8 +20,14 @@ fn main() -> ExitCode {
     let arguments: Vec<OsString> = std::env::args_os().skip(1).collect();
     let words: Vec<&str> = arguments.iter().map(|word| word.to_str().unwrap_or("")).collect();
     match (words.as_slice(), arguments.as_slice()) {
-        (["replay", ..], [_, image, pins, out]) => match replay(image.as_ref(), pins.as_ref(), out.as_ref()) {
-            Ok(answer) => print(&format!("{}\n", line(&answer))),
+        (["replay", ..], [_, image, pins, out]) => {
+            match replay(image.as_ref(), pins.as_ref(), out.as_ref()) {
+                Ok(answer) => print(&format!("{}\n", line(&answer))),
+                Err(message) => failure(&message),
+            }
+        }
+        (["sample", ..], [_, folder]) => match write_samples(folder.as_ref()) {
+            Ok(()) => ExitCode::SUCCESS,
             Err(message) => failure(&message),
         },
         (["table", seed, count], _) => match (seed.parse(), count.parse()) {
@@ -39,7 +46,9 @@ fn print(text: &str) -> ExitCode {
 }
 
 fn usage() -> ExitCode {
-    eprintln!("usage: oracle replay IMAGE PINS OUT\n       oracle table SEED COUNT");
+    eprintln!(
+        "usage: oracle replay IMAGE PINS OUT\n       oracle sample FOLDER\n       oracle table SEED COUNT"
+    );
     ExitCode::from(2)
 }
 
@@ -79,6 +88,17 @@ fn replay(image_path: &Path, pins_path: &Path, out_path: &Path) -> Result<Answer
     }
     replace_file(out_path, &image).map_err(|error| format!("{}: {error}", out_path.display()))?;
     Ok(end)
+}
+
+fn write_samples(folder: &Path) -> Result<(), String> {
+    for (name, bytes) in oracle::sample::samples() {
+        let path = folder.join(name);
+        let parent = path.parent().unwrap_or(folder);
+        fs::create_dir_all(parent)
+            .and_then(|()| fs::write(&path, bytes))
+            .map_err(|error| format!("{}: {error}", path.display()))?;
+    }
+    Ok(())
 }
 
 fn line(answer: &Answer) -> String {
