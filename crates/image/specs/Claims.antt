@@ -1,15 +1,14 @@
 -- What is claimed of the two calls together.
 use Prim.Native.Nat.{ℕ, _<_}
 use mathlib.Core.Path.{_≡_}
-use mathlib.Core.Bool.{Bool, true, false}
+use mathlib.Core.Bool.{true}
 use mathlib.Core.List.{List}
 use lib.ListN.{length}
 use Rattle.memory.specs.Memory.{size, Bytes}
 use Rattle.machine.specs.declared.State.{State}
 use Rattle.machine.specs.State.{well-formed}
-use Rattle.psi.specs.declared.Psi.{Psi}
 use Rattle.image.specs.Image as Image
-use Rattle.image.specs.Calls.{ReadResult, WriteResult, read, write, read-fault}
+use Rattle.image.specs.Calls.{read, write, read-fault}
 
 -- every field is a number of 16 bits, as the code's types have it
 pub record Words (s : State) : Type 0 where

@@ -1,10 +1,9 @@
 -- The image: 34 blocks of 512 bytes, each with its number, its content and its check word.
 use Prim.Native.Nat.{ℕ, zero, suc, _+_, _-_, _*_, _/_, _%_}
-use mathlib.Core.Bool.{Bool, true, false, _&&_}
+use mathlib.Core.Bool.{Bool, true, _&&_}
 use mathlib.Core.List.{List, [], _∷_, _++_}
 use lib.ListN.{length, getD, take, drop, replicate}
 use lib.Dec.{eqb}
-use Rattle.psi.specs.declared.Psi.{Psi}
 use Rattle.machine.specs.declared.State.{State}
 use Rattle.memory.specs.Memory.{size}
 

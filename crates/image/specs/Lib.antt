@@ -1,3 +1,4 @@
 pub mod Image
 pub mod Calls
 pub mod Claims
+pub mod Blocks

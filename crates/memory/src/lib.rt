@@ -27,7 +27,7 @@ fn wide(byte: u8) -> u16
 }
 
 // The word of two bytes, the high one first.
-fn word(high: u8, low: u8) -> u16
+pub fn word(high: u8, low: u8) -> u16
     ensures { λ r. ⌜ r ≡ high * 256 + low ⌝ }
 {
     wide(high) * 256 + wide(low)

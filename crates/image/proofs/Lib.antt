@@ -1,0 +1,7 @@
+pub mod Lists
+pub mod Words
+pub mod Parts
+pub mod Written
+pub mod Accepted
+pub mod Read
+pub mod Claims

@@ -1,0 +1,42 @@
+-- `checked` meets its contract: the check word goes over the last two bytes.
+use Prim.Native.Nat.{_-_}
+use borrow.Author.Needs.{needs}
+use mathlib.Core.Path.{sym}
+use native.Mathlib.Omega.{arith}
+use lib.Seq.{length-take-le}
+use Rattle.image.specs.Image.{checked}
+use Rattle.image.proofs.Parts.{put-last}
+use Rattle.image.proofs.blocks.checked.Statement.{statement}
+use Rattle.image.proofs.blocks.checked.Tie as tie
+
+array-share-prefix-made : tie.Need-array-share-prefix-made
+array-share-prefix-made c = search needs
+
+slice-aggregate-words-sum : tie.Need-slice-aggregate-words-sum
+slice-aggregate-words-sum c = sym (length-take-le _ (c .before .args .block) (omega arith))
+
+words-sum-requires : tie.Need-words-sum-requires
+words-sum-requires c κs = search needs
+
+sub-put-word : tie.Need-sub-put-word
+sub-put-word c = search needs
+
+put-word-requires : tie.Need-put-word-requires
+put-word-requires c κs = search needs
+
+returns : tie.Need-returns
+unfolding checked
+returns c =
+    let block = c .before .before .before .before .args .block in
+    rw (c .put-word .ensures, put-last block (65535 - c .before .before .words-sum .result) (omega arith), c .before .before .words-sum .ensures)
+
+pub checked-spec : {M : Type 1} → statement M
+checked-spec =
+    tie.close
+    (tie.spec
+    array-share-prefix-made
+    slice-aggregate-words-sum
+    words-sum-requires
+    sub-put-word
+    put-word-requires
+    returns)

@@ -1,0 +1,111 @@
+-- `header` meets its contract: fourteen words put into 512 zeros, which computes to the definition's bytes.
+use Prim.Native.Nat.{ℕ}
+use mathlib.Core.Path.{_≡_, refl}
+use mathlib.Core.List.{List}
+use lib.ListN.{replicate}
+use borrow.Author.Needs.{needs}
+use Rattle.machine.specs.declared.State.{State}
+use Rattle.image.specs.Image.{content, padded, words-bytes, fields}
+use Rattle.image.specs.Blocks.{put-word, unchecked}
+use Rattle.image.proofs.blocks.header.Statement.{statement}
+use Rattle.image.proofs.blocks.header.Tie as tie
+
+-- the words put in one after the other are the definition's bytes
+filled : (s : State) (m : List ℕ) →
+    put-word (put-word (put-word (put-word (put-word (put-word (put-word (put-word (put-word (put-word (put-word (put-word (put-word (put-word (replicate 512 0) 2 0x9901) 4 1) 6 (s .wp)) 8 (s .pc)) 10 (s .st)) 12 (s .flags)) 14 (s .psi .mask)) 16 (s .psi .direction)) 18 (s .psi .latch)) 20 (s .psi .load)) 22 (s .psi .decrementer)) 24 (s .psi .reading)) 26 (s .psi .phase)) 28 (s .psi .pending) ≡ unchecked s m 0
+unfolding put-word unchecked content padded words-bytes fields
+filled s m = refl
+
+put-word-requires : tie.Need-put-word-requires
+put-word-requires c κs = search needs
+
+put-word-requires-2 : tie.Need-put-word-requires-2
+put-word-requires-2 c κs = search needs
+
+put-word-requires-3 : tie.Need-put-word-requires-3
+put-word-requires-3 c κs = search needs
+
+put-word-requires-4 : tie.Need-put-word-requires-4
+put-word-requires-4 c κs = search needs
+
+put-word-requires-5 : tie.Need-put-word-requires-5
+put-word-requires-5 c κs = search needs
+
+put-word-requires-6 : tie.Need-put-word-requires-6
+put-word-requires-6 c κs = search needs
+
+put-word-requires-7 : tie.Need-put-word-requires-7
+put-word-requires-7 c κs = search needs
+
+put-word-requires-8 : tie.Need-put-word-requires-8
+put-word-requires-8 c κs = search needs
+
+put-word-requires-9 : tie.Need-put-word-requires-9
+put-word-requires-9 c κs = search needs
+
+put-word-requires-10 : tie.Need-put-word-requires-10
+put-word-requires-10 c κs = search needs
+
+put-word-requires-11 : tie.Need-put-word-requires-11
+put-word-requires-11 c κs = search needs
+
+put-word-requires-12 : tie.Need-put-word-requires-12
+put-word-requires-12 c κs = search needs
+
+put-word-requires-13 : tie.Need-put-word-requires-13
+put-word-requires-13 c κs = search needs
+
+put-word-requires-14 : tie.Need-put-word-requires-14
+put-word-requires-14 c κs = search needs
+
+returns : tie.Need-returns
+returns c m =
+    let c13 = c .before .before in
+    let c12 = c13 .before .before in
+    let c11 = c12 .before .before in
+    let c10 = c11 .before .before in
+    let c9 = c10 .before .before in
+    let c8 = c9 .before .before in
+    let c7 = c8 .before .before in
+    let c6 = c7 .before .before in
+    let c5 = c6 .before .before in
+    let c4 = c5 .before .before in
+    let c3 = c4 .before .before in
+    let c2 = c3 .before .before in
+    let c1 = c2 .before .before in
+    rw (
+      c .put-word14 .ensures,
+      c13 .put-word13 .ensures,
+      c12 .put-word12 .ensures,
+      c11 .put-word11 .ensures,
+      c10 .put-word10 .ensures,
+      c9 .put-word9 .ensures,
+      c8 .put-word8 .ensures,
+      c7 .put-word7 .ensures,
+      c6 .put-word6 .ensures,
+      c5 .put-word5 .ensures,
+      c4 .put-word4 .ensures,
+      c3 .put-word3 .ensures,
+      c2 .put-word2 .ensures,
+      c1 .put-word .ensures,
+    ) (filled (c1 .before .before .before .args .state) m)
+
+pub header-spec : {M : Type 1} → statement M
+header-spec =
+    tie.close
+    (tie.spec
+    put-word-requires
+    put-word-requires-2
+    put-word-requires-3
+    put-word-requires-4
+    put-word-requires-5
+    put-word-requires-6
+    put-word-requires-7
+    put-word-requires-8
+    put-word-requires-9
+    put-word-requires-10
+    put-word-requires-11
+    put-word-requires-12
+    put-word-requires-13
+    put-word-requires-14
+    returns)

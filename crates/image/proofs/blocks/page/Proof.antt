@@ -1,0 +1,99 @@
+-- `page` meets its contract: the part of memory goes between the number and zeros.
+use Prim.Native.Nat.{ℕ, suc, min, _+_, _-_, _*_}
+use mathlib.Core.Path.{_≡_, ap, _∙_}
+use mathlib.Core.List.{List, _++_}
+use borrow.Rule.Slice.PartMut.{putMid}
+use Rattle.machine.specs.declared.State.{State}
+use native.Mathlib.Omega.{arith}
+use native.Mathlib.Numerals.{add-one}
+use lib.ListN.{length, take, drop, replicate}
+use lib.Seq.{take-length}
+use borrow.Author.Needs.{needs}
+use Rattle.image.specs.Image.{padded, content, word-bytes}
+use Rattle.image.specs.Blocks.{put-word, unchecked}
+use Rattle.image.proofs.Parts.{page-content}
+use Rattle.image.proofs.blocks.page.Statement.{statement}
+use Rattle.image.proofs.blocks.page.Tie as tie
+
+add-put-word : tie.Need-add-put-word
+add-put-word c = search needs
+
+cast-put-word : tie.Need-cast-put-word
+cast-put-word c = search needs
+
+put-word-requires : tie.Need-put-word-requires
+put-word-requires c κs = search needs
+
+mul-from : tie.Need-mul-from
+mul-from c = search needs
+
+add-carried : tie.Need-add-carried
+add-carried c = search needs
+
+carried-requires : tie.Need-carried-requires
+carried-requires c κs = search needs
+
+sub-copy : tie.Need-sub-copy
+sub-copy c = search needs
+
+part-copy-start : tie.Need-part-copy-start
+part-copy-start c = search needs
+
+part-copy-end : tie.Need-part-copy-end
+part-copy-end c = search needs
+
+sub-copy-2 : tie.Need-sub-copy-2
+sub-copy-2 c = search needs
+
+part-block-start : tie.Need-part-block-start
+part-block-start c = search needs
+
+part-block-end : tie.Need-part-block-end
+unfolding put-word
+part-block-end c =
+    let e : length (c .before .before .put-word .last .0) ≡ 512 = ap length (c .before .before .put-word .ensures) in
+    omega (arith, e)
+
+copy-requires : tie.Need-copy-requires
+copy-requires c κs = search needs
+
+-- what is left of a block of zeros after its number and its content are put in
+pasted :
+    (s : State) (m : List ℕ) (i to : ℕ) (b c : List ℕ) → length m ≡ 16384 → to ≡ min (508 * (i + 1)) 16384
+    → b ≡ put-word (replicate 512 0) 0 (i + 1)
+    → c ≡ take (length (take (to - 508 * i) (drop (508 * i) m))) (take (to - 508 * i) (drop (508 * i) m))
+    ++ drop (length (take (to - 508 * i) (drop (508 * i) m))) (take 508 (drop 2 b))
+    → putMid 2 508 b c ≡ unchecked s m (suc i)
+unfolding unchecked content put-word
+pasted s m i to b c h t e f =
+    let part = take (to - 508 * i) (drop (508 * i) m) in
+    let zeros : take 508 (drop 2 b) ≡ replicate 508 0 = ap (λ (l : List ℕ). take 508 (drop 2 l)) e in
+    let filled : c ≡ padded 508 (take 508 (drop (508 * i) m)) =
+    f ∙ ap (λ (l : List ℕ). take (length part) part ++ drop (length part) l) zeros ∙ rw (take-length part, t) (page-content m i h) in
+    ap (λ (l : List ℕ). putMid 2 508 l c) (e ∙ ap (put-word (replicate 512 0) 0) (add-one i))
+    ∙ ap (λ (l : List ℕ). word-bytes (suc i) ++ (l ++ word-bytes 0)) filled
+
+returns : tie.Need-returns
+returns c s =
+    let d = c .before .before .before .before .before in
+    let a = d .before .before .before .args in
+    pasted s (a .lent .now) (a .i) _ _ _ (omega arith) (c .before .before .before .before .carried .ensures) (d .put-word .ensures) (c .before .copy .ensures .1)
+
+pub page-spec : {M : Type 1} → statement M
+page-spec =
+    tie.close
+    (tie.spec
+    add-put-word
+    cast-put-word
+    put-word-requires
+    mul-from
+    add-carried
+    carried-requires
+    sub-copy
+    part-copy-start
+    part-copy-end
+    sub-copy-2
+    part-block-start
+    part-block-end
+    copy-requires
+    returns)

@@ -1,0 +1,46 @@
+-- `read_fault` meets its contract: the tests are the definition's, in its order.
+use Rattle.image.specs.Calls.{read-fault}
+use borrow.Author.Tests.{eq-eqb, ne-eqb}
+use borrow.Author.Needs.{needs}
+use Rattle.image.proofs.read_fault.Statement.{statement}
+use Rattle.image.proofs.read_fault.Tie as tie
+
+returns : tie.Need-returns
+unfolding read-fault
+returns c = rw (ne-eqb _ _ (c .if1 .taken))
+
+returns-2 : tie.Need-returns-2
+unfolding read-fault
+returns-2 c = rw (eq-eqb _ _ (c .before .if1 .left), ne-eqb _ _ (c .if2 .taken))
+
+first-fault-requires : tie.Need-first-fault-requires
+first-fault-requires c κs = search needs
+
+returns-3 : tie.Need-returns-3
+unfolding read-fault
+returns-3 c =
+    rw (
+      eq-eqb _ _ (c .before .before .before .before .if1 .left),
+      eq-eqb _ _ (c .before .before .before .if2 .left),
+      ← c .before .before .first-fault .ensures,
+      ne-eqb _ _ (c .if3 .taken),
+    )
+
+content-fault-requires : tie.Need-content-fault-requires
+content-fault-requires c κs = search needs
+
+returns-4 : tie.Need-returns-4
+unfolding read-fault
+returns-4 c =
+    rw (
+      eq-eqb _ _ (c .before .before .before .before .before .if1 .left),
+      eq-eqb _ _ (c .before .before .before .before .if2 .left),
+      ← c .before .before .before .first-fault .ensures,
+      eq-eqb _ _ (c .before .if3 .left),
+      ← c .content-fault .ensures,
+    )
+
+pub read-fault-spec : {M : Type 1} → statement M
+read-fault-spec =
+    tie.close
+    (tie.spec returns returns-2 first-fault-requires returns-3 content-fault-requires returns-4)

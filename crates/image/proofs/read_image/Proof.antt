@@ -1,0 +1,63 @@
+-- `read_image` meets its contract: a refusal gives back what it was given, and an accepted image its state and its memory.
+use mathlib.Core.Path.{sym, ap, _∙_}
+use Rattle.image.specs.Calls.{Fault, read}
+use Rattle.image.proofs.Accepted.{accepted}
+use borrow.Author.Tests.{eq-eqb, ne-eqb}
+use borrow.Author.Needs.{needs}
+use Rattle.image.proofs.read_image.Statement.{statement}
+use Rattle.image.proofs.read_image.Tie as tie
+
+read-fault-requires : tie.Need-read-fault-requires
+read-fault-requires c κs = search needs
+
+blank-requires : tie.Need-blank-requires
+blank-requires c κs = search needs
+
+same-length : tie.Need-same-length
+same-length c = search needs
+
+returns : tie.Need-returns
+unfolding read
+returns c =
+    let f = c .before .before .before in (
+      rw (← f .read-fault .ensures, ne-eqb _ _ (c .before .if1 .taken), c .blank .ensures),
+      rw (← f .read-fault .ensures, ne-eqb _ _ (c .before .if1 .taken)),
+    )
+
+fill-memory-requires : tie.Need-fill-memory-requires
+fill-memory-requires c κs =
+    let f = c .before .before .before in
+    let a = f .before .before .before .before .args in
+    let known = accepted (a .image .now) (a .bytes .now) (ap (λ (f : Fault). f .number) (sym (f .read-fault .ensures)) ∙ c .before .if1 .left) in
+    (known .image-sized, known .memory-sized)
+
+state-of-requires : tie.Need-state-of-requires
+state-of-requires c κs =
+    let f = c .before .before .before .before .before .before in
+    let a = f .before .before .before .before .args in
+    accepted (a .image .now) (a .bytes .now) (ap (λ (f : Fault). f .number) (sym (f .read-fault .ensures)) ∙ c .before .before .before .before .if1 .left) .image-sized
+
+same-length-2 : tie.Need-same-length-2
+same-length-2 c = search needs
+
+returns-2 : tie.Need-returns-2
+unfolding read
+returns-2 c =
+    let t = c .before .before .before .before .before in
+    let f = t .before .before in (
+      rw (← f .read-fault .ensures, eq-eqb _ _ (t .if1 .left), c .state-of .ensures),
+      rw (← f .read-fault .ensures, eq-eqb _ _ (t .if1 .left)) (c .before .before .before .fill-memory .ensures),
+    )
+
+pub read-image-spec : {M : Type 1} → statement M
+read-image-spec =
+    tie.close
+    (tie.spec
+    read-fault-requires
+    blank-requires
+    same-length
+    returns
+    fill-memory-requires
+    state-of-requires
+    same-length-2
+    returns-2)
