@@ -45,12 +45,24 @@ fn instruction(seeds: &mut Seeds) -> u16 {
 /// A well-formed PSI; most have no request enabled.
 fn psi(seeds: &mut Seeds) -> Psi {
     let mut psi = Psi::BLANK;
-    psi.control_and_masks = if seeds.once_in(4) { seeds.word() } else { seeds.below(2) };
+    psi.control_and_masks = if seeds.once_in(4) {
+        seeds.word()
+    } else {
+        seeds.below(2)
+    };
     psi.directions = seeds.word();
     psi.latches = seeds.word() & psi.directions;
     psi.load = if seeds.once_in(3) { 0 } else { seeds.below(0x4000) };
-    psi.decrementer = if seeds.once_in(3) { seeds.below(4) } else { seeds.below(0x4000) };
-    psi.read_register = if psi.control_and_masks % 2 == 0 { psi.decrementer } else { seeds.below(0x4000) };
+    psi.decrementer = if seeds.once_in(3) {
+        seeds.below(4)
+    } else {
+        seeds.below(0x4000)
+    };
+    psi.read_register = if psi.control_and_masks % 2 == 0 {
+        psi.decrementer
+    } else {
+        seeds.below(0x4000)
+    };
     psi.phase = seeds.below(64);
     psi.pending = seeds.below(2);
     psi
@@ -68,8 +80,16 @@ struct Start {
 
 fn start(seeds: &mut Seeds) -> Start {
     let even = |n: u16| n & 0xFFFE;
-    let wp = if seeds.once_in(8) { even(seeds.word()) } else { 0x100 + even(seeds.below(0x80)) };
-    let pc = if seeds.once_in(8) { even(seeds.word()) } else { 0x200 + even(seeds.below(0x80)) };
+    let wp = if seeds.once_in(8) {
+        even(seeds.word())
+    } else {
+        0x100 + even(seeds.below(0x80))
+    };
+    let pc = if seeds.once_in(8) {
+        even(seeds.word())
+    } else {
+        0x200 + even(seeds.below(0x80))
+    };
     let state = State {
         wp,
         pc,
@@ -87,11 +107,18 @@ fn start(seeds: &mut Seeds) -> Start {
     ];
     // a register that holds a word to be executed, for X
     if seeds.once_in(2) {
-        blocks.push(Block(wp.wrapping_add(2 * seeds.below(16)), vec![instruction(seeds)]));
+        blocks.push(Block(
+            wp.wrapping_add(2 * seeds.below(16)),
+            vec![instruction(seeds)],
+        ));
     }
     let high = u32::from(seeds.word());
     let record = (high << 16) | u32::from(seeds.word());
-    Start { state, blocks, record }
+    Start {
+        state,
+        blocks,
+        record,
+    }
 }
 
 fn place(address: u16) -> usize {
@@ -146,14 +173,19 @@ fn state_text(s: &State) -> String {
 }
 
 fn list_text(words: &[u16]) -> String {
-    words.iter().fold(String::from("("), |text, word| text + &format!("{word} ∷ ")) + "[])"
+    words
+        .iter()
+        .fold(String::from("("), |text, word| text + &format!("{word} ∷ "))
+        + "[])"
 }
 
 /// Changed words, block by block.
 fn blocks_text(blocks: &[Block]) -> String {
     let text = blocks
         .iter()
-        .fold(String::from("("), |text, Block(address, words)| text + &format!("b {address} {} ∷ ", list_text(words)));
+        .fold(String::from("("), |text, Block(address, words)| {
+            text + &format!("b {address} {} ∷ ", list_text(words))
+        });
     text + "[])"
 }
 
@@ -172,7 +204,11 @@ fn memory_text(memory: &[u8]) -> String {
 }
 
 fn case(seeds: &mut Seeds) -> String {
-    let Start { state, blocks, record } = start(seeds);
+    let Start {
+        state,
+        blocks,
+        record,
+    } = start(seeds);
     let before = memory_of(&blocks);
     let mut memory = before.clone();
     let answer = run(&mut memory, state, &[record], 1, 1);
@@ -199,7 +235,10 @@ pub fn table(seed: u32, count: usize) -> String {
     let lists = count.div_ceil(PER_LIST);
     for list in 0..lists {
         let here = PER_LIST.min(count - list * PER_LIST);
-        let _ = write!(text, "\nunfoldable pub steps-{list} : List Case\nsteps-{list} =\n");
+        let _ = write!(
+            text,
+            "\nunfoldable pub steps-{list} : List Case\nsteps-{list} =\n"
+        );
         for _ in 0..here {
             let _ = writeln!(text, "{}\n    ∷", case(&mut seeds));
         }
