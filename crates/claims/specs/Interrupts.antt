@@ -1,17 +1,19 @@
 -- Entries are taken exactly when document 01 says.
 use Prim.Native.Nat.{ℕ, _+_, _%_, _≤_, _<_}
 use mathlib.Core.Path.{_≡_}
-use mathlib.Core.Bool.{Bool, true, false}
+use mathlib.Core.Bool.{true, false}
 use mathlib.Core.Logic.{_↔_}
 use Rattle.bits.specs.Bits.{bit}
 use Rattle.psi.specs.declared.Psi.{Psi}
 use Rattle.psi.specs.Clock.{advanced}
 use Rattle.psi.specs.Pins.{parted, requested}
-use Rattle.machine.specs.declared.State.{State}
 use Rattle.machine.specs.State.{Machine, no-sample}
+use Rattle.machine.specs.Perform.{perform}
+use Rattle.machine.specs.declared.Signal.{Signal}
+use Rattle.machine.specs.declared.Signal.the-variants.{Reset as reset, Load as load, Nothing as none, Level as level}
 use Rattle.machine.specs.declared.Kind.{Kind}
-use Rattle.machine.specs.declared.Kind.the-variants.{Reset as was-reset, Load as was-load, Level as was-level}
-use Rattle.machine.specs.Step.{step}
+use Rattle.machine.specs.declared.Kind.the-variants.{Reset as was-reset, Load as was-load, Idle as was-idle, Level as was-level, Ran as ran}
+use Rattle.machine.specs.Step.{boundary, clocked, step}
 
 -- request n is the lowest that is both enabled and active
 pub record Lowest (s : Psi) (v n : ℕ) : Type 0 where
@@ -55,3 +57,17 @@ Load-exactly =
 abbrev pub Reset-exactly : Type 0
 Reset-exactly =
     (word : ℕ) (m : Machine) → (step word m .value ≡ was-reset) ↔ ((n : ℕ) × Lowest-at word m n × (n % 8 < 2))
+
+-- what a step of a kind took at its boundary: an entry, or none
+unfoldable pub taken : Kind → Signal
+taken was-reset = reset
+taken was-load = load
+taken (was-level k) = level k
+taken was-idle = none
+taken (ran d) = none
+
+-- The kind says what the step did: it is that entry, or going on without one, once the clock has advanced.
+abbrev pub Kinds-tell : Type 0
+Kinds-tell =
+    (word : ℕ) (m : Machine)
+    → step word m ≡ perform (parted word .levels) (boundary (taken (step word m .value))) (clocked (parted word .cycles) m)

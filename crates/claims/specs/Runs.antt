@@ -1,5 +1,5 @@
--- Runs in parts, and refused runs.
-use Prim.Native.Nat.{ℕ, _+_, _≤_}
+-- Runs in parts, refused runs, and where a run stops.
+use Prim.Native.Nat.{ℕ, _+_, _%_, _≤_, _<_}
 use mathlib.Core.Path.{_≡_}
 use mathlib.Core.List.{List}
 use lib.ListN.{length, drop}
@@ -20,15 +20,17 @@ joined first second =
       memory = second .memory;
     }
 
+-- the same where the second run begins with what the first left, on the unused records
+abbrev pub followed : RunResult → List ℕ → ℕ → ℕ → RunResult
+followed first records b stop =
+    joined (first .answer) (run (first .memory) (first .answer .state) (drop (first .answer .steps) records) b stop)
+
 -- Where a + b records are there, running a, then b steps on the unused records with the same stop address, is running a + b.
 abbrev pub Runs-in-parts : Type 0
 Runs-in-parts =
     (m : List ℕ) (s : State) (records : List ℕ) (a b stop : ℕ)
     → a + b ≤ length records
-    → run m s records (a + b) stop
-    ≡ joined (run m s records a stop .answer)
-    (run (run m s records a stop .memory) (run m s records a stop .answer .state)
-    (drop (run m s records a stop .answer .steps) records) b stop)
+    → run m s records (a + b) stop ≡ followed (run m s records a stop) records b stop
 
 -- A refused run answers the table's number, returns the state as given, reports no steps, and changes no byte.
 abbrev pub Refused-runs : Type 0
@@ -47,9 +49,26 @@ Accepted-exactly =
     (m : List ℕ) (s : State) (records : List ℕ) (steps stop : ℕ)
     → run m s records steps stop .answer .number ≡ run-refusal m s records steps
 
--- The steps done are at most the steps asked.
+-- The steps done are at most the steps asked, and those that met an unassigned word at most the steps done.
 abbrev pub Steps-at-most : Type 0
 Steps-at-most =
     (m : List ℕ) (s : State) (records : List ℕ) (steps stop : ℕ)
     → (run m s records steps stop .answer .steps ≤ steps)
     × (run m s records steps stop .answer .unassigned ≤ run m s records steps stop .answer .steps)
+
+-- The steps done end at the stop address or at the asked number, and no sooner: a run that does fewer steps than asked ends
+-- with PC at the stop address, and no shorter run of the same does.
+abbrev pub Stops-exactly : Type 0
+Stops-exactly =
+    (m : List ℕ) (s : State) (records : List ℕ) (steps stop : ℕ)
+    → run-refusal m s records steps ≡ 0
+    → (run m s records steps stop .answer .steps < steps → run m s records steps stop .answer .state .pc ≡ stop)
+    × ((k : ℕ) → k < run m s records steps stop .answer .steps → run m s records k stop .answer .state .pc ≡ stop → ⊥)
+
+-- An odd stop address is never met.
+abbrev pub Odd-never-stops : Type 0
+Odd-never-stops =
+    (m : List ℕ) (s : State) (records : List ℕ) (steps stop : ℕ)
+    → run-refusal m s records steps ≡ 0
+    → stop % 2 ≡ 1
+    → run m s records steps stop .answer .steps ≡ steps

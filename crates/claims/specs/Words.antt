@@ -1,43 +1,63 @@
 -- The further words that `decode` announces are those that the microprogram fetches.
-use Prim.Native.Nat.{ℕ, _+_}
+use Prim.Native.Nat.{ℕ, zero, suc, _+_}
 use mathlib.Core.Path.{_≡_}
-use mathlib.Core.Bool.{Bool, true, false}
 use Rattle.memory.specs.declared.Width.the-variants.{Word}
+use Rattle.memory.specs.Memory.{loaded}
 use Rattle.isa.specs.declared.Operand.{Operand}
 use Rattle.isa.specs.declared.Instruction.{Instruction}
 use Rattle.isa.specs.declared.Instruction.the-variants.{Dual, Register, Xop, Transfer, Bit, Jump, Shift, Single, Blwp, X, Immediate, Stwp, Stst, Lwpi, Limi, Control, Unassigned}
 use Rattle.isa.specs.Isa.{decoded, further-words}
 use Rattle.machine.specs.declared.Deed.{Deed}
 use Rattle.machine.specs.State.{Machine}
-use Rattle.machine.specs.Micro.{Micro, _>>=_}
-use Rattle.machine.specs.Perform.{perform, accesses, fetches}
+use Rattle.machine.specs.Micro.{Micro}
+use Rattle.machine.specs.Perform.{Performed, perform, accesses, fetches}
 use Rattle.machine.specs.Operands.{operand}
-use Rattle.machine.specs.Execute.{instruction}
+use Rattle.machine.specs.Execute.{instruction, execute}
 
--- For every instruction: the words fetched are those announced, and for X those of the word that it executes besides.
--- `again` is what X does once its operand's address is known.
+-- the words that a microprogram fetches at the PC
+abbrev pub words : {A : Type 0} → ℕ → Micro A → Machine → ℕ
+words v p m = fetches (accesses v p m)
+
+-- an instruction's words: those announced for it, but for X what f says
+unfoldable pub counted : (Operand → ℕ) → Instruction → ℕ
+counted f (X o) = f o
+counted f (Dual o w s d) = further-words (Dual o w s d)
+counted f (Register o s r) = further-words (Register o s r)
+counted f (Xop s n) = further-words (Xop s n)
+counted f (Transfer o s n) = further-words (Transfer o s n)
+counted f (Bit o d) = further-words (Bit o d)
+counted f (Jump o d) = further-words (Jump o d)
+counted f (Shift o r n) = further-words (Shift o r n)
+counted f (Single o s) = further-words (Single o s)
+counted f (Blwp s) = further-words (Blwp s)
+counted f (Immediate o r) = further-words (Immediate o r)
+counted f (Stwp r) = further-words (Stwp r)
+counted f (Stst r) = further-words (Stst r)
+counted f Lwpi = further-words Lwpi
+counted f Limi = further-words Limi
+counted f (Control o) = further-words (Control o)
+counted f Unassigned = further-words Unassigned
+
+-- Every instruction but X fetches the words announced for it, and X what `again` fetches, which is what X does with its operand.
 abbrev pub Announced-words-are-fetched : Type 0
 Announced-words-are-fetched =
-    (v : ℕ) (again : ℕ → Micro Deed) (i : Instruction) (m : Machine)
-    → fetches (accesses v (instruction (λ o. operand Word o >>= again) i) m)
-    ≡ further-words i + beyond v again i m
+    (v : ℕ) (again : Operand → Micro Deed) (i : Instruction) (m : Machine)
+    → words v (instruction again i) m ≡ counted (λ o. words v (again o) m) i
+
+-- the further words of a word that is executed: X takes those announced for it, and then those of the word that it executes, with
+-- one X fewer allowed; an X beyond the allowance takes none
+unfoldable pub executed : ℕ → ℕ → ℕ → Machine → ℕ
+executed zero v w m = counted (λ o. 0) (decoded w)
+executed (suc k) v w m =
+    counted (λ o. further-words (X o) + executed k v (word (found o)) (found o .machine)) (decoded w)
   where
-    beyond : ℕ → (ℕ → Micro Deed) → Instruction → Machine → ℕ
-    beyond v again (X o) m =
-        fetches (accesses v (again (perform v (operand Word o) m .value)) (perform v (operand Word o) m .machine))
-    beyond v again (Dual o w s d) m = 0
-    beyond v again (Register o s r) m = 0
-    beyond v again (Xop s n) m = 0
-    beyond v again (Transfer o s n) m = 0
-    beyond v again (Bit o d) m = 0
-    beyond v again (Jump o d) m = 0
-    beyond v again (Shift o r n) m = 0
-    beyond v again (Single o s) m = 0
-    beyond v again (Blwp s) m = 0
-    beyond v again (Immediate o r) m = 0
-    beyond v again (Stwp r) m = 0
-    beyond v again (Stst r) m = 0
-    beyond v again Lwpi m = 0
-    beyond v again Limi m = 0
-    beyond v again (Control o) m = 0
-    beyond v again Unassigned m = 0
+    -- its operand's address, and the word there
+    found : Operand → Performed ℕ
+    found o = perform v (operand Word o) m
+
+    word : Performed ℕ → ℕ
+    word a = loaded Word (a .machine .memory) (a .value)
+
+-- Executing a word fetches those words.
+abbrev pub Executed-words-are-fetched : Type 0
+Executed-words-are-fetched = (v k w : ℕ) (m : Machine) → words v (execute k w) m ≡ executed k v w m

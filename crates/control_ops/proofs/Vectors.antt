@@ -18,4 +18,4 @@ load-wraps v w a m = rw (loaded-same w (m .memory) (a % 65536) a (omega arith))
 
 pub switch-wraps : (v a : ℕ) (m : Machine) → perform v (switch (a % 65536)) m ≡ perform v (switch a) m
 unfolding switch
-switch-wraps v a m = rw (mod-add-mod a 65536 2, perform-bind, load-wraps v Word a m) (sym (perform-bind v (load Word a) _ m))
+switch-wraps v a m = rw (mod-add-mod a 65536 2, perform-bind v (load Word (a % 65536)), load-wraps v Word a m) (sym (perform-bind v (load Word a) _ m))

@@ -17,9 +17,10 @@ pub fn switch(bytes: &mut [u8], state: State, vector: u16) -> State
     requires { ⌜ Installed (now bytes) ⌝ }
     ensures { λ r. ⌜ ((v : ℕ) → perform v (Groups.switch vector) (at state (now (bytes .entry))) ≡ performed tt (at r (now (bytes .exit)))) ⌝ }
 {
+    let second = num::wrapping_add_u16(vector, 2);
     let wp = bus::load(bytes, state, Width::Word, vector);
-    let first = wp.state;
-    let pc = bus::load(bytes, first, Width::Word, num::wrapping_add_u16(vector, 2));
+    let between = wp.state;
+    let pc = bus::load(bytes, between, Width::Word, second);
     let old = pc.state;
     let mut s = bus::set_wp(old, wp.value);
     s = bus::set_register(bytes, s, 13, old.wp);
@@ -58,13 +59,13 @@ pub fn return_from(bytes: &[u8], state: State) -> State
     requires { ⌜ Installed (now bytes) ⌝ }
     ensures { λ r. ⌜ ((v : ℕ) → perform v Groups.return (at state (now (bytes .entry))) ≡ performed tt (at r (now (bytes .entry)))) ⌝ }
 {
-    let wp = bus::register(bytes, state, 13);
-    let first = wp.state;
-    let pc = bus::register(bytes, first, 14);
-    let second = pc.state;
-    let st = bus::register(bytes, second, 15);
-    let mut s = st.state;
-    s = bus::set_wp(s, wp.value);
-    s = bus::set_pc(s, pc.value);
-    bus::set_st(s, st.value)
+    let r13 = bus::register(bytes, state, 13);
+    let first = r13.state;
+    let r14 = bus::register(bytes, first, 14);
+    let second = r14.state;
+    let r15 = bus::register(bytes, second, 15);
+    let mut s = r15.state;
+    s = bus::set_wp(s, r13.value);
+    s = bus::set_pc(s, r14.value);
+    bus::set_st(s, r15.value)
 }

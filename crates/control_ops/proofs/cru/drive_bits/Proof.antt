@@ -13,7 +13,8 @@ use Rattle.control_ops.proofs.cru.drive_bits.Statement.{statement}
 use Rattle.control_ops.proofs.cru.drive_bits.Tie as tie
 
 abbrev Inv-loop : tie.InvT-loop
-Inv-loop count value s₀ to₀ rest₀ left₀ s to rest left = (v : ℕ) (m : List ℕ) → perform v (drive-bits count to₀ value) (at s₀ m) ≡ perform v (drive-bits left to rest) (at s m)
+Inv-loop count value s₀ to₀ rest₀ left₀ s to rest left =
+    (v : ℕ) (m : List ℕ) → perform v (drive-bits count to₀ value) (at s₀ m) ≡ perform v (drive-bits left to rest) (at s m)
 
 abbrev μ-loop : tie.MeasureT-loop
 μ-loop count value s₀ to₀ rest₀ left₀ s to rest left = left
@@ -34,7 +35,10 @@ loop-less : tie.Need-loop-less Inv-loop μ-loop
 loop-less c = search needs
 
 loop-again : tie.Need-loop-again Inv-loop μ-loop
-loop-again c v m = let e : c .before .before .before .loop .left ≡ suc (c .before .before .before .loop .left - 1) = omega arith in (rw e at (c .before .before .before .loop .inv v m)) ∙ rw (c .plus .ensures) (drive-turn v _ _ _ _ _ m (c .before .drive .ensures v m))
+loop-again c v m =
+    let turn = c .before .before .before .loop in
+    let e : turn .left ≡ suc (turn .left - 1) = omega arith in
+    (rw e at (turn .inv v m)) ∙ rw (c .plus .ensures) (drive-turn v _ _ _ _ _ m (c .before .drive .ensures v m))
 
 returns : tie.Need-returns Inv-loop μ-loop
 unfolding drive-bits

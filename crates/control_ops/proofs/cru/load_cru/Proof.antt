@@ -32,7 +32,22 @@ same-length c = c .before .before .before .before .before .before .before .befor
 
 returns : tie.Need-returns
 unfolding load-cru
-returns c v = rw (← c .before .before .before .before .before .before .before .before .before .before .before .before .before .before .before .transfer-width .ensures, perform-bind, c .before .before .before .before .before .before .before .before .before .before .before .before .before .address .ensures v, perform-bind, c .before .before .before .before .before .before .before .before .load .ensures v, perform-bind, c .before .before .before .before .before .cru-base .ensures v, perform-bind, c .before .set-status .ensures v _ _ (sym (c .before .before .judged .ensures))) (c .drive-bits .ensures v _)
+returns c v =
+    let base = c .before .before .before .before .before in
+    let source = base .before .before .before in
+    let from = source .before .before .before .before .before in
+    rw (
+      ← from .before .before .transfer-width .ensures,
+      perform-bind,
+      from .address .ensures v,
+      perform-bind,
+      source .load .ensures v,
+      perform-bind,
+      base .cru-base .ensures v,
+      perform-bind,
+      c .before .set-status .ensures v _ _ (sym (c .before .before .judged .ensures)),
+    )
+    (c .drive-bits .ensures v _)
 
 pub load-cru-spec : {M : Type 1} → statement M
 load-cru-spec =

@@ -14,7 +14,11 @@ use Rattle.control_ops.proofs.cru.sense_bits.Statement.{statement}
 use Rattle.control_ops.proofs.cru.sense_bits.Tie as tie
 
 abbrev Inv-loop : tie.InvT-loop
-Inv-loop levels count s₀ from₀ value₀ n₀ s from value n = (n ≤ count) × (value < 2 ^ n) × ((m : List ℕ) → perform levels (sense-bits count from₀) (at s₀ m) ≡ gathered value n (perform levels (sense-bits (count - n) from) (at s m)))
+Inv-loop levels count s₀ from₀ value₀ n₀ s from value n =
+    (n ≤ count)
+    × (value < 2 ^ n)
+    × ((m : List ℕ)
+    → perform levels (sense-bits count from₀) (at s₀ m) ≡ gathered value n (perform levels (sense-bits (count - n) from) (at s m)))
 
 abbrev μ-loop : tie.MeasureT-loop
 μ-loop levels count s₀ from₀ value₀ n₀ s from value n = count - n
@@ -32,7 +36,11 @@ shl-value : tie.Need-shl-value Inv-loop μ-loop
 shl-value c = search needs
 
 add-value : tie.Need-add-value Inv-loop μ-loop
-add-value c = record { fits = below-word (c .before .before .before .before .loop .n + 1) _ (omega arith) (weighed-below _ _ (c .before .before .sense .result .value) (omega arith) (c .before .before .before .before .loop .inv .1)) }
+add-value c =
+    let turn = c .before .before .before .before .loop in
+    record {
+      fits = below-word (turn .n + 1) _ (omega arith) (weighed-below _ _ (c .before .before .sense .result .value) (omega arith) (turn .inv .1));
+    }
 
 plus-requires : tie.Need-plus-requires Inv-loop μ-loop
 plus-requires c κs = search needs
@@ -44,11 +52,21 @@ loop-less : tie.Need-loop-less Inv-loop μ-loop
 loop-less c = search needs
 
 loop-again : tie.Need-loop-again Inv-loop μ-loop
-loop-again c = (search needs, weighed-below _ _ (c .before .before .before .sense .result .value) (omega arith) (c .before .before .before .before .before .loop .inv .1), λ m. let e : c .before .before .before .before .before .before .args .count - c .before .before .before .before .before .loop .n ≡ suc (c .before .before .before .before .before .before .args .count - (c .before .before .before .before .before .loop .n + 1)) = omega arith in (rw e at (c .before .before .before .before .before .loop .inv .2 m)) ∙ rw (c .plus .ensures) (sense-turn _ _ _ _ _ _ _ _ m (omega arith) (c .before .before .before .sense .ensures m)))
+loop-again c =
+    let found = c .before .before .before .sense in
+    let turn = c .before .before .before .before .before .loop in
+    let count = c .before .before .before .before .before .before .args .count in
+    let e : count - turn .n ≡ suc (count - (turn .n + 1)) = omega arith in (
+      search needs,
+      weighed-below _ _ (found .result .value) (omega arith) (turn .inv .1),
+      λ m. (rw e at (turn .inv .2 m)) ∙ rw (c .plus .ensures) (sense-turn _ _ _ _ _ _ _ _ m (omega arith) (found .ensures m)),
+    )
 
 returns : tie.Need-returns Inv-loop μ-loop
 unfolding sense-bits
-returns c m = let e : c .before .before .args .count - c .before .loop .n ≡ 0 = omega arith in (rw e at (c .before .loop .inv .2 m)) ∙ rw (perform-done, mul-zero, add-zero)
+returns c m =
+    let e : c .before .before .args .count - c .before .loop .n ≡ 0 = omega arith in
+    (rw e at (c .before .loop .inv .2 m)) ∙ rw (perform-done, mul-zero, add-zero)
 
 pub sense-bits-spec : {M : Type 1} → statement M
 sense-bits-spec =

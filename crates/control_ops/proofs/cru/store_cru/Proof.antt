@@ -25,7 +25,20 @@ same-length c = search needs
 
 returns : tie.Need-returns
 unfolding store-cru
-returns c = rw (← c .before .before .before .before .before .before .before .before .before .before .before .before .before .before .before .transfer-width .ensures, perform-bind, c .before .before .before .before .before .before .before .before .before .before .before .before .before .address .ensures _, perform-bind, c .before .before .before .before .before .before .before .before .cru-base .ensures _, perform-bind, c .before .before .before .before .before .sense-bits .ensures _) (c .before .before .conclude-judged .ensures _)
+returns c =
+    let found = c .before .before .before .before .before in
+    let base = found .before .before .before in
+    let to = base .before .before .before .before .before in
+    rw (
+      ← to .before .before .transfer-width .ensures,
+      perform-bind,
+      to .address .ensures _,
+      perform-bind,
+      base .cru-base .ensures _,
+      perform-bind,
+      found .sense-bits .ensures _,
+    )
+    (c .before .before .conclude-judged .ensures _)
 
 pub store-cru-spec : {M : Type 1} → statement M
 store-cru-spec =

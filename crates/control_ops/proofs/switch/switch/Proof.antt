@@ -6,11 +6,11 @@ use borrow.Author.Needs.{needs}
 use Rattle.control_ops.proofs.switch.switch.Statement.{statement}
 use Rattle.control_ops.proofs.switch.switch.Tie as tie
 
-load-requires : tie.Need-load-requires
-load-requires c κs = search needs
-
 wrapping-add-u16-requires : tie.Need-wrapping-add-u16-requires
 wrapping-add-u16-requires c κs = search needs
+
+load-requires : tie.Need-load-requires
+load-requires c κs = search needs
 
 load-requires-2 : tie.Need-load-requires-2
 load-requires-2 c κs = search needs
@@ -25,7 +25,10 @@ set-register-requires-2 : tie.Need-set-register-requires-2
 set-register-requires-2 c κs = search needs
 
 set-register-requires-3 : tie.Need-set-register-requires-3
-set-register-requires-3 c κs = c .before .before .before .set-register2 .kept .0 ∙ c .before .before .before .before .before .before .before .set-register .kept .0 ∙ c .before .before .before .before .before .before .before .before .before .before .before .before .before .before .before .before .before .before .pre
+set-register-requires-3 c κs =
+    let r14 = c .before .before .before in
+    let r13 = r14 .before .before .before .before in
+    r14 .set-register2 .kept .0 ∙ r13 .set-register .kept .0 ∙ r13 .before .before .before .before .before .before .before .before .before .before .before .pre
 
 set-pc-requires : tie.Need-set-pc-requires
 set-pc-requires c κs = search needs
@@ -41,14 +44,41 @@ same-length c = search needs
 
 returns : tie.Need-returns
 unfolding switch
-returns c v = rw (perform-bind, c .before .before .before .before .before .before .before .before .before .before .before .before .before .before .before .before .before .before .before .before .before .load .ensures v, ← c .before .before .before .before .before .before .before .before .before .before .before .before .before .before .before .before .before .before .wrapping-add-u16 .ensures, perform-bind, c .before .before .before .before .before .before .before .before .before .before .before .before .before .before .before .before .before .load2 .ensures v, perform-bind, perform-registers, perform-bind, c .before .before .before .before .before .before .before .before .before .before .before .before .before .before .before .set-wp .ensures v _, perform-bind, c .before .before .before .before .before .before .before .before .before .before .before .before .before .set-register .ensures v, perform-bind, c .before .before .before .before .before .before .before .before .before .set-register2 .ensures v, perform-bind, c .before .before .before .before .before .set-register3 .ensures v, perform-bind, c .before .before .set-pc .ensures v _, ← c .before .put .ensures, c .set-flags .ensures v _)
+returns c v =
+    let r15 = c .before .before .before .before .before in
+    let r14 = r15 .before .before .before .before in
+    let r13 = r14 .before .before .before .before in
+    let wp = r13 .before .before in
+    let pc = wp .before .before in
+    let vector = pc .before .before .before in
+    rw (
+      perform-bind,
+      vector .load .ensures v,
+      ← vector .before .before .wrapping-add-u16 .ensures,
+      perform-bind,
+      pc .load2 .ensures v,
+      perform-bind,
+      perform-registers,
+      perform-bind,
+      wp .set-wp .ensures v _,
+      perform-bind,
+      r13 .set-register .ensures v,
+      perform-bind,
+      r14 .set-register2 .ensures v,
+      perform-bind,
+      r15 .set-register3 .ensures v,
+      perform-bind,
+      c .before .before .set-pc .ensures v _,
+      ← c .before .put .ensures,
+      c .set-flags .ensures v _,
+    )
 
 pub switch-spec : {M : Type 1} → statement M
 switch-spec =
     tie.close
     (tie.spec
-    load-requires
     wrapping-add-u16-requires
+    load-requires
     load-requires-2
     set-wp-requires
     set-register-requires

@@ -35,7 +35,24 @@ same-length c = search needs
 
 returns : tie.Need-returns
 unfolding switch-by-number
-returns c v = let e : (64 + 4 * c .before .before .before .before .before .before .before .before .before .before .before .before .before .before .before .before .before .args .number) % 65536 ≡ c .before .before .before .before .before .before .before .before .before .before .before .wrapping-add-u16 .result = omega (arith, c .before .before .before .before .before .before .before .before .before .before .before .wrapping-add-u16 .ensures) in rw (perform-bind, c .before .before .before .before .before .before .before .before .before .before .before .before .before .before .address .ensures v, perform-bind, ← switch-wraps v (64 + 4 * c .before .before .before .before .before .before .before .before .before .before .before .before .before .before .before .before .before .args .number), e, c .before .before .before .before .before .before .before .before .switch .ensures v, perform-bind, c .before .before .before .before .set-status .ensures v _ _ (sym (c .before .before .before .before .before .put .ensures)), c .before .before .set-register .ensures v)
+returns c v =
+    let status = c .before .before .before .before in
+    let switched = status .before .before .before .before in
+    let vector = switched .before .before .before in
+    let operand = vector .before .before .before in
+    let n = operand .before .before .before .args .number in
+    let e : (64 + 4 * n) % 65536 ≡ vector .wrapping-add-u16 .result = omega (arith, vector .wrapping-add-u16 .ensures) in
+    rw (
+      perform-bind,
+      operand .address .ensures v,
+      perform-bind,
+      ← switch-wraps v (64 + 4 * n),
+      e,
+      switched .switch .ensures v,
+      perform-bind,
+      status .set-status .ensures v _ _ (sym (status .before .put .ensures)),
+      c .before .before .set-register .ensures v,
+    )
 
 pub switch-by-number-spec : {M : Type 1} → statement M
 switch-by-number-spec =

@@ -1,30 +1,34 @@
+-- A memory of another size is refused; else the blank state is entered by reset.
+use Rattle.machine.specs.Run.{StateResult, power-up, power-up-refusal}
+use borrow.Author.Tests.{ne-eqb}
+use mathlib.Core.Path.{sym, ap}
+use denote.Ref.{now}
+use Rattle.machine.specs.Step as Step
+use Rattle.replay_core.proofs.Runs.{powered}
+use Rattle.machine.proofs.Bind.{perform-bind, perform-done}
 use borrow.Author.Needs.{needs}
 use Rattle.replay_core.proofs.run.power_up.Statement.{statement}
 use Rattle.replay_core.proofs.run.power_up.Tie as tie
-use Rattle.replay_core.proofs.run.power_up.Reads as reads
-use Rattle.replay_core.proofs.run.power_up.Lts as lts
-use Rattle.machine.proofs.State.blank.Reads as blank-reads
-use Rattle.replay_core.proofs.boundary.enter.Reads as enter-reads
 
--- src/run.rt:108:9
 blank-requires : tie.Need-blank-requires
 blank-requires c κs = search needs
 
--- src/run.rt:110:9
 returns : tie.Need-returns
-returns c = ?
+unfolding power-up power-up-refusal
+returns c = (simp (ne-eqb _ _ (c .if1 .taken), c .before .blank .ensures), simp (ne-eqb _ _ (c .if1 .taken)))
 
--- src/run.rt:117:16
 enter-requires : tie.Need-enter-requires
 enter-requires c κs = search needs
 
--- src/run.rt:104:1
 same-length : tie.Need-same-length
 same-length c = search needs
 
--- src/run.rt:104:1
 returns-2 : tie.Need-returns-2
-returns-2 c = ?
+unfolding Step.boundary
+returns-2 c =
+    let entered = rw (c .before .before .before .before .before .blank .ensures) at (c .before .before .enter .ensures 0) in
+    let e = powered (now (c .before .before .before .before .before .before .before .args .bytes)) (c .before .before .enter .result) (c .before .before .enter .last .0) (c .before .before .before .before .if1 .left) (rw (perform-bind, entered, perform-done)) in
+    (sym (ap (λ (z : StateResult). z .answer) e), sym (ap (λ (z : StateResult). z .memory) e))
 
 pub power-up-spec : {M : Type 1} → statement M
 power-up-spec = tie.close (tie.spec blank-requires returns enter-requires same-length returns-2)

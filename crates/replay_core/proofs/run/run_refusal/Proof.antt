@@ -1,29 +1,23 @@
+-- The code's tests are the definition's, in the same order.
+use borrow.Author.Tests.{eq-eqb, ne-eqb, lt-ltb, le-ltb, not-true, not-false}
 use borrow.Author.Needs.{needs}
 use Rattle.replay_core.proofs.run.run_refusal.Statement.{statement}
 use Rattle.replay_core.proofs.run.run_refusal.Tie as tie
-use Rattle.replay_core.proofs.run.run_refusal.Reads as reads
-use Rattle.replay_core.proofs.run.run_refusal.Lts as lts
-use Rattle.machine.proofs.State.well_formed.Reads as well-formed-reads
 
--- src/run.rt:75:9
 returns : tie.Need-returns
-returns c = ?
+returns c = simp (ne-eqb _ _ (c .if1 .taken))
 
--- src/run.rt:77:9
 well-formed-requires : tie.Need-well-formed-requires
 well-formed-requires c κs = search needs
 
--- src/run.rt:78:9
 returns-2 : tie.Need-returns-2
-returns-2 c = ?
+returns-2 c = simp (eq-eqb _ _ (c .before .before .if1 .left), ← c .before .well-formed .ensures, not-true (c .before .well-formed .result) (c .if2 .taken))
 
--- src/run.rt:81:9
 returns-3 : tie.Need-returns-3
-returns-3 c = ?
+returns-3 c = simp (eq-eqb _ _ (c .before .before .before .if1 .left), ← c .before .before .well-formed .ensures, not-false (c .before .before .well-formed .result) (c .before .if2 .left), lt-ltb _ _ (c .if3 .taken))
 
--- src/run.rt:71:1
 returns-4 : tie.Need-returns-4
-returns-4 c = ?
+returns-4 c = simp (eq-eqb _ _ (c .before .before .before .if1 .left), ← c .before .before .well-formed .ensures, not-false (c .before .before .well-formed .result) (c .before .if2 .left), le-ltb _ _ (c .if3 .left))
 
 pub run-refusal-spec : {M : Type 1} → statement M
 run-refusal-spec = tie.close (tie.spec returns well-formed-requires returns-2 returns-3 returns-4)

@@ -1,67 +1,81 @@
+-- Invariant: the run from the start is the run from here, with the steps so far and their unassigned words added.
+use Prim.Native.Nat.{_-_, _≤_}
+use mathlib.Core.Path.{_≡_, refl, sym, _∙_}
+use native.Mathlib.Nat.{sub-zero, add-zero}
+use denote.Ref.{now}
+use native.Mathlib.Omega.{arith}
+use lib.ListN.{length, drop}
+use borrow.Author.Needs.{needs}
+use borrow.Author.Tests.{eq-eqb, ne-eqb}
+use Rattle.machine.specs.State.{at}
+use Rattle.machine.specs.Run.{runs}
+use Rattle.replay_core.proofs.Runs.{further, further-none, further-once, stopped, none-left, goes-on, missed-at-most}
 use Rattle.replay_core.proofs.run.run_steps.Statement.{statement}
 use Rattle.replay_core.proofs.run.run_steps.Tie as tie
-use Rattle.replay_core.proofs.run.run_steps.Reads as reads
-use Rattle.replay_core.proofs.run.run_steps.Lts as lts
-use Rattle.replay_core.proofs.boundary.step.Reads as step-reads
-use Rattle.replay_core.proofs.run.missed.Reads as missed-reads
 
 abbrev Inv-loop : tie.InvT-loop
-Inv-loop bytes₀ records steps stop s₀ done₀ unassigned₀ bytes s done unassigned = ?
+Inv-loop bytes₀ records steps stop s₀ done₀ unassigned₀ bytes s done unassigned =
+    (length bytes ≡ 16384)
+    × (done ≤ steps)
+    × (unassigned ≤ done)
+    × (runs stop steps records (at s₀ bytes₀) ≡ further done unassigned (runs stop (steps - done) (drop done records) (at s bytes)))
 
 abbrev μ-loop : tie.MeasureT-loop
-μ-loop bytes₀ records steps stop s₀ done₀ unassigned₀ bytes s done unassigned = ?
+μ-loop bytes₀ records steps stop s₀ done₀ unassigned₀ bytes s done unassigned = steps - done
 
--- src/run.rt:45:5
 loop-holds : tie.Need-loop-holds Inv-loop μ-loop
-loop-holds c = ?
+loop-holds c = (c .before .before .pre .0, omega arith, omega arith, rw (sub-zero) (sym (further-none _)))
 
--- src/run.rt:48:13
 same-length : tie.Need-same-length Inv-loop μ-loop
-same-length c = ?
+same-length c = search needs
 
--- src/run.rt:48:13
 returns : tie.Need-returns Inv-loop μ-loop
-returns c = ?
+returns c =
+    (c .before .before .loop .inv .3 ∙ rw (stopped _ _ _ _ (eq-eqb _ _ (c .if1 .taken))) (simp add-zero), refl)
 
--- src/run.rt:55:48
 mul-step : tie.Need-mul-step Inv-loop μ-loop
-mul-step c = ?
+mul-step c = search needs
 
--- src/run.rt:55:48
 shared-slice-read-step : tie.Need-shared-slice-read-step Inv-loop μ-loop
-shared-slice-read-step c = ?
+shared-slice-read-step c = search needs
 
--- src/run.rt:55:13
 step-requires : tie.Need-step-requires Inv-loop μ-loop
-step-requires c κs = ?
+step-requires c κs = search needs
 
--- src/run.rt:59:35
 missed-requires : tie.Need-missed-requires Inv-loop μ-loop
-missed-requires c κs = ?
+missed-requires c κs = search needs
 
--- src/run.rt:59:22
 add-unassigned : tie.Need-add-unassigned Inv-loop μ-loop
-add-unassigned c = ?
+add-unassigned c = omega (arith, c .missed .ensures, missed-at-most (c .before .before .before .before .step .result .kind), c .before .before .before .before .before .before .before .before .before .before .before .before .fits .steps .fits)
 
--- src/run.rt:60:16
 add-done : tie.Need-add-done Inv-loop μ-loop
-add-done c = ?
+add-done c = search needs
 
--- src/run.rt:45:5
 loop-less : tie.Need-loop-less Inv-loop μ-loop
-loop-less c = ?
+loop-less c = search needs
 
--- src/run.rt:45:5
 loop-again : tie.Need-loop-again Inv-loop μ-loop
-loop-again c = ?
+loop-again c =
+    let args = c .before .before .before .before .before .before .before .before .before .before .before .before .args in
+    let loop = c .before .before .before .before .before .before .before .before .before .loop in (
+      c .before .before .before .before .step .kept .0 ∙ loop .inv .0,
+      omega arith,
+      omega (arith, c .missed .ensures, missed-at-most (c .before .before .before .before .step .result .kind)),
+      loop .inv .3
+          ∙ rw (goes-on (args .stop) (args .steps) (loop .done) (now (args .records)) (at (loop .s) (loop .bytes)) (ne-eqb _ _ (c .before .before .before .before .before .before .before .if1 .left)) (omega arith) (omega arith), c .before .before .before .before .step .ensures)
+          (further-once (loop .done) (loop .unassigned) (c .before .before .before .before .step .result .kind) _ ∙ rw (← c .missed .ensures)),
+    )
 
--- src/run.rt:36:1
 same-length-2 : tie.Need-same-length-2 Inv-loop μ-loop
-same-length-2 c = ?
+same-length-2 c = search needs
 
--- src/run.rt:36:1
 returns-2 : tie.Need-returns-2 Inv-loop μ-loop
-returns-2 c = ?
+returns-2 c = (
+  c .before .loop .inv .3
+      ∙ rw (let none : c .before .before .before .before .args .steps - c .before .loop .done ≡ 0 = omega arith in none, none-left)
+      (simp add-zero),
+  refl,
+)
 
 pub run-steps-spec : {M : Type 1} → statement M
 run-steps-spec =
