@@ -1,6 +1,7 @@
 //! `oracle replay IMAGE PINS OUT`: reads an image and a pin file, runs, writes
 //! the image after, and prints one line.
 //! `oracle table SEED COUNT`: prints a table of random steps for the checker.
+//! `oracle expect NAME`: prints what the test program NAME is to write.
 
 use std::ffi::OsString;
 use std::fs::{self, File, OpenOptions};
@@ -19,13 +20,19 @@ fn main() -> ExitCode {
     let arguments: Vec<OsString> = std::env::args_os().skip(1).collect();
     let words: Vec<&str> = arguments.iter().map(|word| word.to_str().unwrap_or("")).collect();
     match (words.as_slice(), arguments.as_slice()) {
-        (["replay", ..], [_, image, pins, out]) => match replay(image.as_ref(), pins.as_ref(), out.as_ref()) {
-            Ok(answer) => print(&format!("{}\n", line(&answer))),
-            Err(message) => failure(&message),
-        },
+        (["replay", ..], [_, image, pins, out]) => {
+            match replay(image.as_ref(), pins.as_ref(), out.as_ref()) {
+                Ok(answer) => print(&format!("{}\n", line(&answer))),
+                Err(message) => failure(&message),
+            }
+        }
         (["table", seed, count], _) => match (seed.parse(), count.parse()) {
             (Ok(seed), Ok(count)) => print(&oracle::table::table(seed, count)),
             _ => usage(),
+        },
+        (["expect", name], _) => match oracle::expect::expect(name) {
+            Some(text) => print(&text),
+            None => usage(),
         },
         _ => usage(),
     }
@@ -39,7 +46,9 @@ fn print(text: &str) -> ExitCode {
 }
 
 fn usage() -> ExitCode {
-    eprintln!("usage: oracle replay IMAGE PINS OUT\n       oracle table SEED COUNT");
+    eprintln!(
+        "usage: oracle replay IMAGE PINS OUT\n       oracle table SEED COUNT\n       oracle expect NAME"
+    );
     ExitCode::from(2)
 }
 
