@@ -2,6 +2,8 @@
 //! sides make the same inputs from the same seeds, and print sums of what comes
 //! of them.
 
+mod programs;
+mod runs;
 mod steps;
 
 use crate::psi::Psi;
@@ -11,6 +13,7 @@ use crate::{State, MEMORY_SIZE};
 /// The expected output of a test program, if there is one of that name.
 pub fn expect(name: &str) -> Option<String> {
     match name {
+        "test_runs" => Some(runs::expect()),
         "test_steps" => Some(steps::expect()),
         _ => None,
     }
@@ -113,8 +116,12 @@ fn mostly(seeds: &mut Seeds, usual: u16, limit: u16) -> u16 {
 
 /// A well-formed PSI.
 fn psi(seeds: &mut Seeds) -> Psi {
-    let control = seeds.below(2);
-    let control_and_masks = if seeds.once_in(4) { control } else { seeds.word() };
+    // no mask, masks of the requests for levels alone, or any
+    let control_and_masks = match seeds.below(4) {
+        0 => seeds.below(2),
+        1 => seeds.word() & 0x7879,
+        _ => seeds.word(),
+    };
     let directions = if seeds.once_in(4) { seeds.word() } else { 0 };
     let latches = seeds.word() & directions;
     let load = mostly(seeds, 0, 16384);
@@ -180,4 +187,35 @@ fn record(seeds: &mut Seeds, quiet: u16) -> u32 {
         _ => seeds.below(1024),
     };
     u32::from(cycles) << 22 | levels(seeds, quiet)
+}
+
+/// How many ways there are to spoil a state.
+const WAYS: u16 = 10;
+
+/// A state that is not well formed, in one of ten ways.
+fn spoiled(seeds: &mut Seeds, state: State, way: u16) -> State {
+    let mut state = state;
+    let psi = &mut state.psi;
+    // all ways of the PSI take this number
+    let large = if way < 3 { 0 } else { 16384 + seeds.below(49152) };
+    match way {
+        0 => state.wp |= 1,
+        1 => state.pc |= 1,
+        2 => state.flags = 4 + seeds.below(65532),
+        3 => psi.load = large,
+        4 => psi.decrementer = large,
+        5 => psi.read_register = large,
+        6 => psi.phase = 64 + seeds.below(65472),
+        7 => psi.pending = 2 + seeds.below(65534),
+        8 => {
+            let port = 1 << seeds.below(16);
+            psi.directions &= !port;
+            psi.latches |= port;
+        }
+        _ => {
+            psi.control_and_masks &= !1;
+            psi.read_register = (psi.decrementer + 1) % 16384;
+        }
+    }
+    state
 }

@@ -2,6 +2,8 @@
 ghost use Prim.Native.Nat.{_<_};
 
 pub mod lines;
+pub mod records;
+pub mod spoiled;
 pub mod states;
 
 // The next number of 16 bits: a linear congruential generator over 32 bits, of which the high half is used.

@@ -1,4 +1,4 @@
-// States, addresses and pin records from a seed; the sum of a state.
+// Words, addresses and states from a seed; the sum of a state.
 ghost use Prim.Native.Nat.{_<_};
 use super::below;
 use super::mix;
@@ -48,14 +48,18 @@ fn mostly(seed: &mut u32, usual: u16, limit: u16) -> u16
     if once_in(seed, 3) { usual } else { other }
 }
 
+// Control and masks: no mask, masks of the requests for levels alone, or any.
+fn masks(seed: &mut u32) -> u16 {
+    match below(seed, 4) {
+        0 => below(seed, 2),
+        1 => bits::both(word(seed), 0x7879),
+        _ => word(seed),
+    }
+}
+
 // A well-formed PSI.
 pub fn psi(seed: &mut u32) -> Psi {
-    let control = below(seed, 2);
-    let mask = if once_in(seed, 4) {
-        control
-    } else {
-        word(seed)
-    };
+    let mask = masks(seed);
     let direction = if once_in(seed, 4) { word(seed) } else { 0 };
     let latch = bits::both(word(seed), direction);
     let load = mostly(seed, 0, 16384);
@@ -109,44 +113,4 @@ pub fn mix_state(sum: u32, state: State) -> u32 {
     let first = mix(mix(sum, state.wp as u32), state.pc as u32);
     let second = mix(mix(first, state.st as u32), state.flags as u32);
     mix_psi(second, psi)
-}
-
-// The levels with one pin low.
-fn lowered(seed: &mut u32, levels: u32) -> u32 {
-    let pin = below(seed, 22) as u32;
-    levels & !(1u32 << pin)
-}
-
-// The levels of the 22 pins: mostly all high, else with one or two low, or any.
-fn levels(seed: &mut u32, quiet: u16) -> u32
-    requires { ⌜ 0 < quiet ⌝ }
-{
-    let high = 0x3FFFFF;
-    match below(seed, quiet) {
-        0 => (word(seed) as u32) << 6 | below(seed, 64) as u32,
-        1 => lowered(seed, high),
-        2 => {
-            let one = lowered(seed, high);
-            lowered(seed, one)
-        }
-        _ => high,
-    }
-}
-
-// Cycles of a record.
-fn cycles(seed: &mut u32) -> u16 {
-    match below(seed, 4) {
-        0 => 0,
-        1 => below(seed, 64),
-        2 => 64,
-        _ => below(seed, 1024),
-    }
-}
-
-// A pin record; the higher `quiet`, the fewer have a pin low.
-pub fn record(seed: &mut u32, quiet: u16) -> u32
-    requires { ⌜ 0 < quiet ⌝ }
-{
-    let passed = cycles(seed) as u32;
-    passed << 22 | levels(seed, quiet)
 }

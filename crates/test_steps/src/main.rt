@@ -5,6 +5,7 @@ use machine::Deed;
 use machine::State;
 use memory::Width;
 use seeds::lines;
+use seeds::records;
 use seeds::states;
 
 // Words that share a line of the output, lines of a pass over all words, and lines in all.
@@ -127,7 +128,7 @@ fn one(bytes: &mut [u8], seed: &mut u32, word: u16, through: bool, tally: Tally)
 {
     let state = states::state(seed, 0);
     let first = prepared(bytes, seed, state, word, through);
-    let record = psi::split(states::record(seed, 4));
+    let record = psi::split(records::record(seed, 4));
     let executed = cpu::execute(bytes, state, record.levels, first, 8);
     let deed = executed.deed;
     let after = executed.state;
