@@ -147,6 +147,11 @@ impl<'m> Machine<'m> {
             return Step::Idle;
         }
         let word = self.fetch();
+        self.execute_fetched(word)
+    }
+
+    /// Executes a word that was fetched: the PC is already after it.
+    pub fn execute_fetched(&mut self, word: u16) -> Step {
         match self.execute(word, X_ALLOWANCE) {
             Executed::Assigned => Step::Instruction,
             Executed::Unassigned => Step::Unassigned,

@@ -6,6 +6,7 @@
 
 pub mod bus;
 pub mod cpu;
+pub mod expect;
 pub mod image;
 pub mod psi;
 pub mod run;

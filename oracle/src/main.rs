@@ -2,6 +2,7 @@
 //! the image after, and prints one line.
 //! `oracle sample FOLDER`: writes the stored samples below a folder.
 //! `oracle table SEED COUNT`: prints a table of random steps for the checker.
+//! `oracle expect NAME`: prints what the test program NAME is to write.
 
 use std::ffi::OsString;
 use std::fs::{self, File, OpenOptions};
@@ -34,6 +35,10 @@ fn main() -> ExitCode {
             (Ok(seed), Ok(count)) => print(&oracle::table::table(seed, count)),
             _ => usage(),
         },
+        (["expect", name], _) => match oracle::expect::expect(name) {
+            Some(text) => print(&text),
+            None => usage(),
+        },
         _ => usage(),
     }
 }
@@ -47,7 +52,7 @@ fn print(text: &str) -> ExitCode {
 
 fn usage() -> ExitCode {
     eprintln!(
-        "usage: oracle replay IMAGE PINS OUT\n       oracle sample FOLDER\n       oracle table SEED COUNT"
+        "usage: oracle replay IMAGE PINS OUT\n       oracle sample FOLDER\n       oracle table SEED COUNT\n       oracle expect NAME"
     );
     ExitCode::from(2)
 }

@@ -14,7 +14,7 @@ use Rattle.machine.specs.declared.State.{State}
 use Rattle.machine.specs.State.{well-formed}
 use Rattle.image.specs.Image.{image-size, format, edition, content, words-bytes, fields, word-bytes, word-at, padded, checked, words-sum, zeros, block, blocks, image, block-of, content-of, contents-of, memory-of, field-of, state-of, filler-of}
 use Rattle.image.specs.Calls.{fault, block-fault, first-fault, content-fault, read-fault, read}
-use Rattle.image.specs.Claims.{Words}
+use Rattle.machine.specs.Laws.{Words}
 use Rattle.image.specs.Blocks.{unchecked}
 use Rattle.image.proofs.Lists.{length-padded, padded-part, joined, joined-length, joined-part, joined-parts, joined-same, joined-shift}
 use Rattle.image.proofs.Words.{checked-sum, word-among}
@@ -133,14 +133,14 @@ state-found s m w =
       mod-eq-of-lt (w .pc),
       mod-eq-of-lt (w .st),
       mod-eq-of-lt (w .flags),
-      mod-eq-of-lt (w .mask),
-      mod-eq-of-lt (w .direction),
-      mod-eq-of-lt (w .latch),
-      mod-eq-of-lt (w .load),
-      mod-eq-of-lt (w .decrementer),
-      mod-eq-of-lt (w .reading),
-      mod-eq-of-lt (w .phase),
-      mod-eq-of-lt (w .pending),
+      mod-eq-of-lt (w .psi .mask),
+      mod-eq-of-lt (w .psi .direction),
+      mod-eq-of-lt (w .psi .latch),
+      mod-eq-of-lt (w .psi .load),
+      mod-eq-of-lt (w .psi .decrementer),
+      mod-eq-of-lt (w .psi .reading),
+      mod-eq-of-lt (w .psi .phase),
+      mod-eq-of-lt (w .psi .pending),
     )
 
 -- The image is accepted, and gives back the state and the memory.

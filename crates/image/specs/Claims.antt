@@ -1,5 +1,5 @@
 -- What is claimed of the two calls together.
-use Prim.Native.Nat.{ℕ, _<_}
+use Prim.Native.Nat.{ℕ}
 use mathlib.Core.Path.{_≡_}
 use mathlib.Core.Bool.{true}
 use mathlib.Core.List.{List}
@@ -7,23 +7,9 @@ use lib.ListN.{length}
 use Rattle.memory.specs.Memory.{size, Bytes}
 use Rattle.machine.specs.declared.State.{State}
 use Rattle.machine.specs.State.{well-formed}
+use Rattle.machine.specs.Laws.{Words}
 use Rattle.image.specs.Image as Image
 use Rattle.image.specs.Calls.{read, write, read-fault}
-
--- every field is a number of 16 bits, as the code's types have it
-pub record Words (s : State) : Type 0 where
-  pub wp : s .wp < 65536
-  pub pc : s .pc < 65536
-  pub st : s .st < 65536
-  pub flags : s .flags < 65536
-  pub mask : s .psi .mask < 65536
-  pub direction : s .psi .direction < 65536
-  pub latch : s .psi .latch < 65536
-  pub load : s .psi .load < 65536
-  pub decrementer : s .psi .decrementer < 65536
-  pub reading : s .psi .reading < 65536
-  pub phase : s .psi .phase < 65536
-  pub pending : s .psi .pending < 65536
 
 -- Reading a written image gives back the state and the memory.
 abbrev pub Reads-what-was-written : Type 0

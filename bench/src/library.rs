@@ -1,0 +1,134 @@
+//! The exported library, `include/tms_replay.h`, as safe calls. A slice is a pointer and a length.
+
+use oracle::{Psi, State};
+
+extern "C" {
+    fn tms_run(
+        memory: *mut u8,
+        memory_len: usize,
+        state: *mut u16,
+        state_len: usize,
+        records: *const u32,
+        records_len: usize,
+        steps: usize,
+        stop: u16,
+        counts: *mut u64,
+        counts_len: usize,
+    ) -> u16;
+    fn tms_read_image(
+        image: *const u8,
+        image_len: usize,
+        memory: *mut u8,
+        memory_len: usize,
+        state: *mut u16,
+        state_len: usize,
+        block: *mut u16,
+        block_len: usize,
+    ) -> u16;
+    fn tms_write_image(
+        state: *const u16,
+        state_len: usize,
+        memory: *const u8,
+        memory_len: usize,
+        image: *mut u8,
+        image_len: usize,
+    ) -> u16;
+}
+
+/// A state's twelve words, in the order of an image's block 0.
+pub type Words = [u16; 12];
+
+pub fn words(state: &State) -> Words {
+    let psi = &state.psi;
+    [
+        state.wp,
+        state.pc,
+        state.st,
+        state.flags,
+        psi.control_and_masks,
+        psi.directions,
+        psi.latches,
+        psi.load,
+        psi.decrementer,
+        psi.read_register,
+        psi.phase,
+        psi.pending,
+    ]
+}
+
+pub fn state(words: &Words) -> State {
+    State {
+        wp: words[0],
+        pc: words[1],
+        st: words[2],
+        flags: words[3],
+        psi: Psi {
+            control_and_masks: words[4],
+            directions: words[5],
+            latches: words[6],
+            load: words[7],
+            decrementer: words[8],
+            read_register: words[9],
+            phase: words[10],
+            pending: words[11],
+        },
+    }
+}
+
+/// The number, and in `counts` the steps done and the unassigned words met.
+pub fn run(
+    memory: &mut [u8],
+    state: &mut Words,
+    records: &[u32],
+    steps: usize,
+    stop: u16,
+    counts: &mut [u64; 2],
+) -> u16 {
+    // SAFETY: each pointer is that of a live slice of the length beside it, and the slices that are
+    // changed are borrowed as `&mut`, so none overlaps another.
+    unsafe {
+        tms_run(
+            memory.as_mut_ptr(),
+            memory.len(),
+            state.as_mut_ptr(),
+            state.len(),
+            records.as_ptr(),
+            records.len(),
+            steps,
+            stop,
+            counts.as_mut_ptr(),
+            counts.len(),
+        )
+    }
+}
+
+/// The number, and in `block` the block that a refusal names.
+pub fn read_image(image: &[u8], memory: &mut [u8], state: &mut Words, block: &mut [u16; 1]) -> u16 {
+    // SAFETY: as in `run`.
+    unsafe {
+        tms_read_image(
+            image.as_ptr(),
+            image.len(),
+            memory.as_mut_ptr(),
+            memory.len(),
+            state.as_mut_ptr(),
+            state.len(),
+            block.as_mut_ptr(),
+            block.len(),
+        )
+    }
+}
+
+pub fn write_image(state: &Words, memory: &[u8], image: &mut [u8]) -> u16 {
+    // SAFETY: as in `run`.
+    unsafe {
+        tms_write_image(
+            state.as_ptr(),
+            state.len(),
+            memory.as_ptr(),
+            memory.len(),
+            image.as_mut_ptr(),
+            image.len(),
+        )
+    }
+}

@@ -1,0 +1,46 @@
+// States that are not well formed.
+use super::below;
+use machine::State;
+use psi::Psi;
+
+// How many ways there are to spoil a state.
+pub const WAYS: u16 = 10;
+
+// A PSI that is not well formed, in one of seven ways.
+fn spoiled_psi(seed: &mut u32, psi: Psi, way: u16) -> Psi {
+    let mut p = psi;
+    let large = 16384 + below(seed, 49152);
+    match way {
+        0 => p.load = large,
+        1 => p.decrementer = large,
+        2 => p.reading = large,
+        3 => p.phase = 64 + below(seed, 65472),
+        4 => p.pending = 2 + below(seed, 65534),
+        5 => {
+            let port = 1u16 << (below(seed, 16) as u32);
+            p.direction = bits::without(p.direction, port);
+            p.latch = bits::either(p.latch, port);
+        }
+        _ => {
+            p.mask = p.mask / 2 * 2;
+            p.reading = (p.decrementer % 16384 + 1) % 16384;
+        }
+    }
+    p
+}
+
+// A state that is not well formed, in one of ten ways.
+pub fn spoiled(seed: &mut u32, state: State, way: u16) -> State {
+    let mut s = state;
+    match way {
+        0 => s.wp = s.wp / 2 * 2 + 1,
+        1 => s.pc = s.pc / 2 * 2 + 1,
+        2 => s.flags = 4 + below(seed, 65532),
+        _ => {
+            let psi = s.psi;
+            let after = spoiled_psi(seed, psi, way - 3);
+            s.psi = after;
+        }
+    }
+    s
+}

@@ -1,0 +1,182 @@
+// Every word executed five times, from different states and memories, once of them through X; sums of what came of it.
+ghost use Prim.Native.Nat.{_<_, _≤_};
+ghost use Rattle.memory.specs.Memory.{Installed};
+use machine::Deed;
+use machine::State;
+use memory::Width;
+use seeds::lines;
+use seeds::records;
+use seeds::states;
+
+// Words that share a line of the output, lines of a pass over all words, and lines in all.
+const WORDS: u16 = 2048;
+
+const PASS: u16 = 32;
+
+const LINES: u16 = 160;
+
+// The sum so far, and how many unassigned words there were.
+struct Tally {
+    sum: u32,
+    unassigned: u32,
+}
+
+// Puts a word into a register.
+fn put_register(bytes: &mut [u8], wp: u16, n: u16, value: u16)
+    requires { ⌜ Installed (now bytes) ⌝ }
+{
+    let twice = std::num::wrapping_add_u16(n, n);
+    memory::store(
+        bytes,
+        Width::Word,
+        std::num::wrapping_add_u16(wp, twice),
+        value,
+    );
+}
+
+// R12: around the PSI's bits, before the wrap of the bit number, or any.
+fn base(seed: &mut u32) -> u16 {
+    match seeds::below(seed, 4) {
+        0 => seeds::word(seed),
+        1 => 0x0FC0 + seeds::below(seed, 64),
+        _ => seeds::below(seed, 72),
+    }
+}
+
+// The word of a register.
+fn content(seed: &mut u32, wp: u16, n: u16) -> u16 {
+    if n == 12 {
+        base(seed)
+    } else {
+        states::value(seed, wp)
+    }
+}
+
+// Fills the workspace.
+fn registers(bytes: &mut [u8], seed: &mut u32, wp: u16)
+    requires { ⌜ Installed (now bytes) ⌝ }
+{
+    let mut n: u16 = 0;
+    while n < 16 {
+        put_register(bytes, wp, n, content(seed, wp, n));
+        n += 1;
+    }
+}
+
+// Makes a word be reached through one to nine X, each in a register: the first of them.
+fn chained(bytes: &mut [u8], seed: &mut u32, wp: u16, word: u16) -> u16
+    requires { ⌜ Installed (now bytes) ⌝ }
+{
+    let first = seeds::below(seed, 16);
+    let further = seeds::below(seed, 9);
+    let mut n = first;
+    while n < first + further {
+        put_register(bytes, wp, n % 16, 0x0480 + (n + 1) % 16);
+        n += 1;
+    }
+    put_register(bytes, wp, n % 16, word);
+    0x0480 + first
+}
+
+// The sum with the registers more.
+fn mix_registers(sum: u32, bytes: &[u8], wp: u16) -> u32
+    requires { ⌜ Installed (now bytes) ⌝ }
+{
+    let mut mixed = sum;
+    let mut n: u16 = 0;
+    while n < 16 {
+        let address = std::num::wrapping_add_u16(wp, 2 * n);
+        mixed = seeds::mix(mixed, memory::load(bytes, Width::Word, address) as u32);
+        n += 1;
+    }
+    mixed
+}
+
+// 1 for an unassigned word, else 0.
+fn missed(deed: Deed) -> u32 {
+    match deed {
+        Deed::Unassigned => 1,
+        Deed::Ordinary => 0,
+        Deed::Switched => 0,
+        Deed::Returned => 0,
+    }
+}
+
+// Fills the workspace and what may be further words, and gives the word to be executed: `word` itself, or X that leads to it.
+fn prepared(bytes: &mut [u8], seed: &mut u32, state: State, word: u16, through: bool) -> u16
+    requires { ⌜ Installed (now bytes) ⌝ }
+{
+    let wp = state.wp;
+    let pc = state.pc;
+    registers(bytes, seed, wp);
+    memory::store(bytes, Width::Word, pc, states::value(seed, wp));
+    memory::store(
+        bytes,
+        Width::Word,
+        std::num::wrapping_add_u16(pc, 2),
+        states::value(seed, pc),
+    );
+    if !through {
+        return word;
+    }
+    chained(bytes, seed, wp, word)
+}
+
+// Executes a word from a new state, by itself or through X.
+fn one(bytes: &mut [u8], seed: &mut u32, word: u16, through: bool, tally: Tally) -> Tally
+    requires { ⌜ Installed (now bytes) ⌝ }
+{
+    let state = states::state(seed, 0);
+    let first = prepared(bytes, seed, state, word, through);
+    let record = psi::split(records::record(seed, 4));
+    let executed = cpu::execute(bytes, state, record.levels, first, 8);
+    let deed = executed.deed;
+    let after = executed.state;
+    let miss = missed(deed);
+    let sum = states::mix_state(seeds::mix(tally.sum, miss), after);
+    Tally {
+        sum: mix_registers(sum, bytes, after.wp),
+        unassigned: std::num::wrapping_add_u32(tally.unassigned, miss),
+    }
+}
+
+// The words of a line.
+fn words(bytes: &mut [u8], seed: &mut u32, first: u16, through: bool) -> Tally
+    requires { ⌜ Installed (now bytes) ⌝ }
+    requires { ⌜ first ≤ 63488 ⌝ }
+{
+    let mut tally = Tally {
+        sum: 0,
+        unassigned: 0,
+    };
+    let mut i: u16 = 0;
+    while i < WORDS {
+        tally = one(bytes, seed, first + i, through, tally);
+        i += 1;
+    }
+    tally
+}
+
+// A line: new memory, its words, and the sums.
+fn line(bytes: &mut [u8], seed: &mut u32, n: u16)
+    requires { ⌜ Installed (now bytes) ⌝ }
+    requires { ⌜ n < 160 ⌝ }
+{
+    seeds::fill(bytes, seed);
+    let first = n % PASS * WORDS;
+    let tally = words(bytes, seed, first, n / PASS == 4);
+    lines::number(first as u64);
+    lines::number(tally.unassigned as u64);
+    lines::sum(tally.sum);
+    lines::last(seeds::mix_bytes(0, bytes));
+}
+
+fn main() {
+    let mut bytes = [0u8; 16384];
+    let mut seed: u32 = 9980;
+    let mut n: u16 = 0;
+    while n < LINES {
+        line(&mut bytes, &mut seed, n);
+        n += 1;
+    }
+}

@@ -1,0 +1,221 @@
+//! `oracle expect NAME`: the output that the test program NAME is to write. Both
+//! sides make the same inputs from the same seeds, and print sums of what comes
+//! of them.
+
+mod programs;
+mod runs;
+mod steps;
+
+use crate::psi::Psi;
+use crate::seeds::Seeds;
+use crate::{State, MEMORY_SIZE};
+
+/// The expected output of a test program, if there is one of that name.
+pub fn expect(name: &str) -> Option<String> {
+    match name {
+        "test_runs" => Some(runs::expect()),
+        "test_steps" => Some(steps::expect()),
+        _ => None,
+    }
+}
+
+/// A sum over numbers, of 32 bits.
+#[derive(Clone, Copy, Default)]
+struct Sum(u32);
+
+impl Sum {
+    fn mix(&mut self, number: u32) {
+        self.0 = self.0.wrapping_mul(16_777_619).wrapping_add(number);
+    }
+
+    fn mix_bytes(&mut self, bytes: &[u8]) {
+        for &byte in bytes {
+            self.mix(u32::from(byte));
+        }
+    }
+
+    fn mix_state(&mut self, state: &State) {
+        let psi = &state.psi;
+        let words = [
+            state.wp,
+            state.pc,
+            state.st,
+            state.flags,
+            psi.control_and_masks,
+            psi.directions,
+            psi.latches,
+            psi.load,
+            psi.decrementer,
+            psi.read_register,
+            psi.phase,
+            psi.pending,
+        ];
+        for word in words {
+            self.mix(u32::from(word));
+        }
+    }
+}
+
+/// The sum of some bytes alone.
+fn sum_of(bytes: &[u8]) -> u32 {
+    let mut sum = Sum::default();
+    sum.mix_bytes(bytes);
+    sum.0
+}
+
+fn fill(bytes: &mut [u8], seeds: &mut Seeds) {
+    for byte in bytes {
+        *byte = (seeds.word() >> 8) as u8;
+    }
+}
+
+fn put_word(memory: &mut [u8], address: u16, value: u16) {
+    let place = usize::from(address & !1) % MEMORY_SIZE;
+    memory[place..place + 2].copy_from_slice(&value.to_be_bytes());
+}
+
+fn get_word(memory: &[u8], address: u16) -> u16 {
+    let place = usize::from(address & !1) % MEMORY_SIZE;
+    u16::from_be_bytes([memory[place], memory[place + 1]])
+}
+
+/// The address of a register.
+fn address_of(wp: u16, n: u16) -> u16 {
+    wp.wrapping_add(2 * n)
+}
+
+/// A word of memory; some are addresses just after `near`.
+fn value(seeds: &mut Seeds, near: u16) -> u16 {
+    const MARKED: [u16; 8] = [0, 1, 2, 0x7FFF, 0x8000, 0xFFFF, 0x00FF, 0x0100];
+    match seeds.below(4) {
+        0 => MARKED[usize::from(seeds.below(8))],
+        1 => near.wrapping_add(seeds.below(64)),
+        2 => seeds.below(1024),
+        _ => seeds.word(),
+    }
+}
+
+/// An even address; some lie just before 65536 and some just after 0.
+fn address(seeds: &mut Seeds) -> u16 {
+    match seeds.below(8) {
+        0 => 0xFFE0 + 2 * seeds.below(16),
+        1 => 2 * seeds.below(64),
+        _ => seeds.word() & !1,
+    }
+}
+
+/// Mostly `usual`, else a number below `limit`.
+fn mostly(seeds: &mut Seeds, usual: u16, limit: u16) -> u16 {
+    let other = seeds.below(limit);
+    if seeds.once_in(3) {
+        usual
+    } else {
+        other
+    }
+}
+
+/// A well-formed PSI.
+fn psi(seeds: &mut Seeds) -> Psi {
+    // no mask, masks of the requests for levels alone, or any
+    let control_and_masks = match seeds.below(4) {
+        0 => seeds.below(2),
+        1 => seeds.word() & 0x7879,
+        _ => seeds.word(),
+    };
+    let directions = if seeds.once_in(4) { seeds.word() } else { 0 };
+    let latches = seeds.word() & directions;
+    let load = mostly(seeds, 0, 16384);
+    let soon = seeds.below(4);
+    let decrementer = mostly(seeds, soon, 16384);
+    let other = seeds.below(16384);
+    let read_register = if control_and_masks % 2 == 0 {
+        decrementer
+    } else {
+        other
+    };
+    Psi {
+        control_and_masks,
+        directions,
+        latches,
+        load,
+        decrementer,
+        read_register,
+        phase: seeds.below(64),
+        pending: seeds.below(2),
+    }
+}
+
+/// A well-formed state with these flags; some have PC in the workspace.
+fn state(seeds: &mut Seeds, flags: u16) -> State {
+    let wp = address(seeds);
+    let near = wp.wrapping_add(2 * seeds.below(32));
+    let pc = if seeds.once_in(8) { near } else { address(seeds) };
+    let st = seeds.word();
+    State {
+        wp,
+        pc,
+        st,
+        flags,
+        psi: psi(seeds),
+    }
+}
+
+/// The levels of the 22 pins: mostly all high, else with one or two low, or any.
+fn levels(seeds: &mut Seeds, quiet: u16) -> u32 {
+    const HIGH: u32 = 0x3F_FFFF;
+    let lowered = |seeds: &mut Seeds, levels: u32| levels & !(1 << seeds.below(22));
+    match seeds.below(quiet) {
+        0 => {
+            let high = u32::from(seeds.word());
+            high << 6 | u32::from(seeds.below(64))
+        }
+        1 => lowered(seeds, HIGH),
+        2 => {
+            let one = lowered(seeds, HIGH);
+            lowered(seeds, one)
+        }
+        _ => HIGH,
+    }
+}
+
+/// A pin record; the higher `quiet`, the fewer have a pin low.
+fn record(seeds: &mut Seeds, quiet: u16) -> u32 {
+    let cycles = match seeds.below(4) {
+        0 => 0,
+        1 => seeds.below(64),
+        2 => 64,
+        _ => seeds.below(1024),
+    };
+    u32::from(cycles) << 22 | levels(seeds, quiet)
+}
+
+/// How many ways there are to spoil a state.
+const WAYS: u16 = 10;
+
+/// A state that is not well formed, in one of ten ways.
+fn spoiled(seeds: &mut Seeds, state: State, way: u16) -> State {
+    let mut state = state;
+    let psi = &mut state.psi;
+    // all ways of the PSI take this number
+    let large = if way < 3 { 0 } else { 16384 + seeds.below(49152) };
+    match way {
+        0 => state.wp |= 1,
+        1 => state.pc |= 1,
+        2 => state.flags = 4 + seeds.below(65532),
+        3 => psi.load = large,
+        4 => psi.decrementer = large,
+        5 => psi.read_register = large,
+        6 => psi.phase = 64 + seeds.below(65472),
+        7 => psi.pending = 2 + seeds.below(65534),
+        8 => {
+            let port = 1 << seeds.below(16);
+            psi.directions &= !port;
+            psi.latches |= port;
+        }
+        _ => {
+            psi.control_and_masks &= !1;
+            psi.read_register = (psi.decrementer + 1) % 16384;
+        }
+    }
+    state
+}

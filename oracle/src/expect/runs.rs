@@ -1,0 +1,139 @@
+//! Runs of generated programs and of any bytes, with pin records, stop addresses
+//! and refused calls.
+
+use std::fmt::Write;
+
+use super::{address, fill, programs, record, spoiled, state, sum_of, Sum, WAYS};
+use crate::seeds::Seeds;
+use crate::{power_up, run, Answer, Memory, State, MEMORY_SIZE};
+
+const LINES: u32 = 128;
+/// Memories of a line.
+const MEMORIES: u32 = 16;
+/// Calls on a memory.
+const CALLS: u32 = 8;
+const RECORDS: usize = 1024;
+
+/// A stop address: odd, anywhere, or at or soon after `pc`.
+fn stop(seeds: &mut Seeds, pc: u16) -> u16 {
+    match seeds.below(8) {
+        0 => address(seeds),
+        1 => pc.wrapping_add(2 * seeds.below(8)),
+        2 => seeds.word(),
+        _ => 1,
+    }
+}
+
+/// A run on a part of the memory that is too short.
+fn run_short(memory: &mut Memory, seeds: &mut Seeds, state: State, records: &[u32], steps: usize) -> Answer {
+    let size = usize::from(seeds.below(16384));
+    run(&mut memory[..size], state, records, steps, 1)
+}
+
+/// A run that is refused, for one reason or for two.
+fn run_refused(memory: &mut Memory, seeds: &mut Seeds, state: State, records: &[u32]) -> Answer {
+    let many = records.len() + 1 + usize::from(seeds.below(3));
+    let way = seeds.below(WAYS);
+    let bad = spoiled(seeds, state, way);
+    match seeds.below(5) {
+        0 => run_short(memory, seeds, state, records, 1),
+        1 => run_short(memory, seeds, bad, records, many),
+        2 => run(memory, bad, records, 1, 1),
+        3 => run(memory, bad, records, many, 1),
+        _ => run(memory, state, records, many, 1),
+    }
+}
+
+/// A call: mostly a run on the records from some place on.
+fn call(memory: &mut Memory, seeds: &mut Seeds, state: State, records: &[u32]) -> Answer {
+    if seeds.once_in(8) {
+        return run_refused(memory, seeds, state, records);
+    }
+    let from = usize::from(seeds.below(256));
+    let steps = usize::from(seeds.below(769));
+    let stop = stop(seeds, state.pc);
+    run(memory, state, &records[from..], steps, stop)
+}
+
+/// What the calls of a line came to.
+#[derive(Default)]
+struct Course {
+    sum: Sum,
+    steps: usize,
+    unassigned: usize,
+}
+
+impl Course {
+    fn follow(&mut self, answer: &Answer) {
+        self.sum.mix(u32::from(answer.number));
+        self.sum.mix(answer.steps as u32);
+        self.sum.mix(answer.unassigned as u32);
+        self.sum.mix_state(&answer.state);
+        self.steps += answer.steps;
+        self.unassigned += answer.unassigned;
+    }
+
+    /// One memory: its bytes, its records, its calls, and what they leave.
+    fn one(&mut self, memory: &mut Memory, seeds: &mut Seeds) {
+        if seeds.once_in(4) {
+            fill(memory, seeds);
+        } else {
+            programs::fill(memory, seeds);
+        }
+        let quiet = 4 << seeds.below(5);
+        let records: Vec<u32> = (0..RECORDS).map(|_| record(seeds, quiet)).collect();
+        let mut at = if seeds.once_in(4) {
+            power_up(memory).state
+        } else if seeds.once_in(2) {
+            state(seeds, 0)
+        } else {
+            let flags = seeds.below(4);
+            state(seeds, flags)
+        };
+        self.sum.mix_state(&at);
+        for _ in 0..CALLS {
+            let answer = call(memory, seeds, at, &records);
+            self.follow(&answer);
+            if answer.number == Answer::ACCEPTED {
+                at = answer.state;
+            }
+        }
+        self.sum.mix_bytes(memory);
+    }
+}
+
+/// Calls on memories of another size than the machine's.
+fn other_sizes() -> String {
+    let mut long = [0; MEMORY_SIZE + 1];
+    let up = power_up(&mut long);
+    let ran = run(&mut long, State::BLANK, &[0], 1, 1);
+    let up_short = power_up(&mut [0; MEMORY_SIZE - 1]);
+    let mut sum = Sum::default();
+    sum.mix_state(&up.state);
+    format!(
+        "{} {} {} {:08x} {:08x}\n",
+        up.number,
+        ran.number,
+        up_short.number,
+        sum.0,
+        sum_of(&long)
+    )
+}
+
+pub fn expect() -> String {
+    let mut text = other_sizes();
+    let mut memory = [0; MEMORY_SIZE];
+    let mut seeds = Seeds(9900);
+    for _ in 0..LINES {
+        let mut course = Course::default();
+        for _ in 0..MEMORIES {
+            course.one(&mut memory, &mut seeds);
+        }
+        let _ = writeln!(
+            text,
+            "{} {} {:08x}",
+            course.steps, course.unassigned, course.sum.0
+        );
+    }
+    text
+}
