@@ -3,7 +3,6 @@ mod files;
 mod output;
 
 use machine::State;
-use replay_core::run;
 use replay_files::line;
 use replay_files::pins;
 
@@ -25,7 +24,7 @@ fn print_line(number: u16, steps: usize, unassigned: usize, state: State) {
 fn finish(out: &[u8], answer: machine::RunAnswer, lent: &[u8; 16384]) {
     let state = answer.state;
     let mut after = [0u8; 17408];
-    let written = image::write_image(state, lent, &mut after);
+    let written = tms_replay::write_image(state, lent, &mut after);
     if written.number != 0 {
         let kept = written.state;
         print_line(written.number, 0, 0, kept);
@@ -40,13 +39,13 @@ fn finish(out: &[u8], answer: machine::RunAnswer, lent: &[u8; 16384]) {
 fn run_on(state: State, file: &[u8], lent: &mut [u8; 16384]) -> machine::RunAnswer {
     let records = pins::records(file);
     let n = pins::record_count(file);
-    run::run(lent, state, &records[..n], n, pins::stop(file))
+    tms_replay::run(lent, state, &records[..n], n, pins::stop(file))
 }
 
 // The replay, where both files are read.
 fn replay(before: &[u8], file: &[u8], out: &[u8]) {
     let mut lent = [0u8; 16384];
-    let read = image::read_image(before, &mut lent);
+    let read = tms_replay::read_image(before, &mut lent);
     let start = read.state;
     if read.number != 0 {
         print_line(read.number, 0, 0, start);
