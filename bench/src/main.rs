@@ -7,7 +7,7 @@ use std::time::{Duration, Instant};
 
 const STEPS: usize = 1_000_000;
 const PORTION: usize = 16383;
-const ROUNDS: usize = 7;
+const ROUNDS: usize = 40;
 const IMAGES: usize = 500;
 const LOOP: usize = 0x0100;
 const WORKSPACE: usize = 0x0300;

@@ -72,7 +72,7 @@ commanded Lrex = ordinary (G.command Lrex)
 module _ (again : Operand → Micro Deed) (means : (o : Operand) → Does Meant (again o)) where
   instruction-means : (i : Instruction) → Does Meant (instruction again i)
   unfolding instruction
-  instruction-means (Dual op w s d) = ordinary (G.dual op w s d)
+  instruction-means (Dual op s d w) = ordinary (G.dual op w s d)
   instruction-means (Register op s n) = ordinary (G.with-register op s n)
   instruction-means (Xop s n) = switched (G.switch-by-number s n) (xop-operand-saves s n)
   instruction-means (Transfer op o n) = ordinary (G.transfer op o n)

@@ -330,7 +330,7 @@ then-done v p b m = rw (words-bind, of-done, add-zero)
 
 pub announced-words-are-fetched : Announced-words-are-fetched
 unfolding instruction further-words counted
-announced-words-are-fetched v again (Dual op w s d) m = rw (then-done, of-dual)
+announced-words-are-fetched v again (Dual op s d w) m = rw (then-done, of-dual)
 announced-words-are-fetched v again (Register op s n) m = rw (then-done, of-with-register)
 announced-words-are-fetched v again (Xop s n) m = rw (then-done, of-switch-by-number)
 announced-words-are-fetched v again (Transfer op s n) m = rw (then-done, of-transfer)

@@ -21,7 +21,7 @@ words v p m = fetches (accesses v p m)
 -- an instruction's words: those announced for it, but for X what f says
 unfoldable pub counted : (Operand → ℕ) → Instruction → ℕ
 counted f (X o) = f o
-counted f (Dual o w s d) = further-words (Dual o w s d)
+counted f (Dual o s d w) = further-words (Dual o s d w)
 counted f (Register o s r) = further-words (Register o s r)
 counted f (Xop s n) = further-words (Xop s n)
 counted f (Transfer o s n) = further-words (Transfer o s n)

@@ -18,7 +18,7 @@ others = 0 ∷ 1 ∷ 2 ∷ 3 ∷ 4 ∷ 5 ∷ 6 ∷ 7 ∷ 8 ∷ 10 ∷ 11 ∷ 12 
 
 pub not-x : (f g : Operand → Micro Deed) (i : Instruction) → OneOf others (tagOf the-type i) → instruction f i ≡ instruction g i
 unfolding instruction
-not-x f g (Dual o w s d) h = refl
+not-x f g (Dual o s d w) h = refl
 not-x f g (Register o s r) h = refl
 not-x f g (Xop s n) h = refl
 not-x f g (Transfer o s n) h = refl

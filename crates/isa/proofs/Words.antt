@@ -63,7 +63,7 @@ fields-in-range w =
 
 pub two-further-words : Two-further-words
 unfolding further-words
-two-further-words (Dual o w s d) = omega (arith, operand-words-at-most s refl, operand-words-at-most d refl)
+two-further-words (Dual o s d w) = omega (arith, operand-words-at-most s refl, operand-words-at-most d refl)
 two-further-words (Register o s r) = omega (arith, operand-words-at-most s refl)
 two-further-words (Xop s n) = omega (arith, operand-words-at-most s refl)
 two-further-words (Transfer o s n) = omega (arith, operand-words-at-most s refl)

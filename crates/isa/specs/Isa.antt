@@ -47,7 +47,7 @@ unfoldable pub dual-width : ℕ → Width
 dual-width w = if eqb (w / 4096 % 2) 1 then Byte else Word
 
 unfoldable pub dual : ℕ → Instruction
-dual w = Dual (dual-operation (w / 8192)) (dual-width w) (source w) (destination w)
+dual w = Dual (dual-operation (w / 8192)) (source w) (destination w) (dual-width w)
 
 -- 2000 to 3FFF: the weights from 1024 on are the code, the four below it a register, XOP's number or a count of bits
 unfoldable pub register-operation : ℕ → RegisterOp
@@ -176,7 +176,7 @@ operand-words o = if eqb (o .mode) 2 then 1 else 0
 
 -- how many words an instruction takes after its first; X counts only its own
 unfoldable pub further-words : Instruction → ℕ
-further-words (Dual o w s d) = operand-words s + operand-words d
+further-words (Dual o s d w) = operand-words s + operand-words d
 further-words (Register o s r) = operand-words s
 further-words (Xop s n) = operand-words s
 further-words (Transfer o s n) = operand-words s

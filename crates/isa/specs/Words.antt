@@ -14,7 +14,7 @@ General o = (o .mode < 4) × (o .register < 16)
 
 -- Modes are below 4, registers, numbers and counts below 16, displacements below 256.
 abbrev pub Fields : Instruction → Type 0
-Fields (Dual o w s d) = General s × General d
+Fields (Dual o s d w) = General s × General d
 Fields (Register o s r) = General s × (r < 16)
 Fields (Xop s n) = General s × (n < 16)
 Fields (Transfer o s n) = General s × (n < 16)
@@ -40,7 +40,7 @@ abbrev pub Two-further-words : Type 0
 Two-further-words = (i : Instruction) → further-words i ≤ 2
 
 unfoldable pub is-unassigned : Instruction → Bool
-is-unassigned (Dual o w s d) = false
+is-unassigned (Dual o s d w) = false
 is-unassigned (Register o s r) = false
 is-unassigned (Xop s n) = false
 is-unassigned (Transfer o s n) = false

@@ -101,11 +101,13 @@ pub enum ControlOp {
 
 // An instruction with its fields. Counts and displacements are as coded.
 pub enum Instruction {
+    // The general operand comes right after the operation, as in all other forms: the compiled code then reads it
+    // from one place.
     Dual {
         op: DualOp,
-        width: Width,
         source: Operand,
         destination: Operand,
+        width: Width,
     },
     Register {
         op: RegisterOp,

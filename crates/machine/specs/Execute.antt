@@ -24,7 +24,7 @@ command-deed Lrex = deed.Ordinary
 
 -- an instruction, where `again` is what X does with its operand
 unfoldable pub instruction : (Operand → Micro Deed) → Instruction → Micro Deed
-instruction again (Dual op w s d) = G.dual op w s d >> done deed.Ordinary
+instruction again (Dual op s d w) = G.dual op w s d >> done deed.Ordinary
 instruction again (Register op s n) = G.with-register op s n >> done deed.Ordinary
 instruction again (Xop s n) = G.switch-by-number s n >> done deed.Switched
 instruction again (Transfer op o n) = G.transfer op o n >> done deed.Ordinary
