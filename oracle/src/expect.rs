@@ -2,6 +2,8 @@
 //! sides make the same inputs from the same seeds, and print sums of what comes
 //! of them.
 
+mod damage;
+mod images;
 mod programs;
 mod runs;
 mod steps;
@@ -13,6 +15,7 @@ use crate::{State, MEMORY_SIZE};
 /// The expected output of a test program, if there is one of that name.
 pub fn expect(name: &str) -> Option<String> {
     match name {
+        "test_images" => Some(images::expect()),
         "test_runs" => Some(runs::expect()),
         "test_steps" => Some(steps::expect()),
         _ => None,
@@ -35,25 +38,29 @@ impl Sum {
     }
 
     fn mix_state(&mut self, state: &State) {
-        let psi = &state.psi;
-        let words = [
-            state.wp,
-            state.pc,
-            state.st,
-            state.flags,
-            psi.control_and_masks,
-            psi.directions,
-            psi.latches,
-            psi.load,
-            psi.decrementer,
-            psi.read_register,
-            psi.phase,
-            psi.pending,
-        ];
-        for word in words {
+        for word in words_of(state) {
             self.mix(u32::from(word));
         }
     }
+}
+
+/// The words of a state, in the image's order.
+fn words_of(state: &State) -> [u16; 12] {
+    let psi = &state.psi;
+    [
+        state.wp,
+        state.pc,
+        state.st,
+        state.flags,
+        psi.control_and_masks,
+        psi.directions,
+        psi.latches,
+        psi.load,
+        psi.decrementer,
+        psi.read_register,
+        psi.phase,
+        psi.pending,
+    ]
 }
 
 /// The sum of some bytes alone.

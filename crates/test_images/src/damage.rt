@@ -1,0 +1,175 @@
+// Images changed in one place or two, most of them with the block's check word made right again.
+ghost use mathlib.Core.Path.{_≡_};
+ghost use Prim.Native.Nat.{_+_, _<_};
+ghost use lib.ListN.{length};
+use machine::State;
+use seeds::below;
+use seeds::spoiled;
+
+// How many kinds of damage there are, and classes of places.
+pub const KINDS: u16 = 20;
+
+pub const PLACES: u16 = 3;
+
+// The word that starts at a byte.
+fn word_at(image: &[u8], at: usize) -> u16
+    requires { ⌜ at + 1 < length (now image) ⌝ }
+{
+    memory::word(image[at], image[at + 1])
+}
+
+// Puts a word at a byte.
+fn put(image: &mut [u8], at: usize, word: u16)
+    requires { ⌜ at + 1 < length (now image) ⌝ }
+{
+    image[at] = (word / 256) as u8;
+    image[at + 1] = (word % 256) as u8;
+}
+
+// A difference that is not 0: of one byte or of both.
+fn difference(seed: &mut u32) -> u16 {
+    match below(seed, 4) {
+        0 => 1,
+        1 => 256,
+        2 => 65535,
+        _ => 1 + below(seed, 65535),
+    }
+}
+
+// Adds a difference to word `n` of a block.
+fn change(image: &mut [u8], seed: &mut u32, block: usize, n: usize)
+    requires { ⌜ length (now image) ≡ 17408 ⌝ }
+    requires { ⌜ block < 34 ⌝ }
+    requires { ⌜ n < 256 ⌝ }
+{
+    let at = 512 * block + 2 * n;
+    let word = word_at(image, at);
+    put(
+        image,
+        at,
+        std::num::wrapping_add_u16(word, difference(seed)),
+    );
+}
+
+// Makes a block's check word right.
+fn mend(image: &mut [u8], block: usize)
+    requires { ⌜ length (now image) ≡ 17408 ⌝ }
+    requires { ⌜ block < 34 ⌝ }
+{
+    let first = 512 * block;
+    let mut sum: u16 = 0;
+    let mut n = 0;
+    while n < 255 {
+        sum = std::num::wrapping_add_u16(sum, word_at(image, first + 2 * n));
+        n += 1;
+    }
+    put(image, first + 510, std::num::wrapping_sub_u16(65535, sum));
+}
+
+// Changes word `n` of a block, whose check word is right after it.
+fn change_and_mend(image: &mut [u8], seed: &mut u32, block: usize, n: usize)
+    requires { ⌜ length (now image) ≡ 17408 ⌝ }
+    requires { ⌜ block < 34 ⌝ }
+    requires { ⌜ n < 256 ⌝ }
+{
+    change(image, seed, block, n);
+    mend(image, block);
+}
+
+// A block of a class: the first, one in the middle, the last.
+fn block_at(seed: &mut u32, place: u16) -> usize
+    ensures { λ r. ⌜ r < 34 ⌝ }
+{
+    match place {
+        0 => 0,
+        1 => 1 + below(seed, 32) as usize,
+        _ => 33,
+    }
+}
+
+// Puts a state's words into block 0.
+fn put_state(image: &mut [u8], state: State)
+    requires { ⌜ length (now image) ≡ 17408 ⌝ }
+{
+    let psi = state.psi;
+    let words = [
+        state.wp,
+        state.pc,
+        state.st,
+        state.flags,
+        psi.mask,
+        psi.direction,
+        psi.latch,
+        psi.load,
+        psi.decrementer,
+        psi.reading,
+        psi.phase,
+        psi.pending,
+    ];
+    let mut n = 0;
+    while n < 12 {
+        put(image, 6 + 2 * n, words[n]);
+        n += 1;
+    }
+    mend(image, 0);
+}
+
+// Damage to block 0 and to the filler.
+fn damage_content(image: &mut [u8], seed: &mut u32, kind: u16)
+    requires { ⌜ length (now image) ≡ 17408 ⌝ }
+{
+    match kind {
+        13 => change_and_mend(image, seed, 0, 1),
+        14 => change_and_mend(image, seed, 0, 2),
+        15 => {
+            let n = 15 + below(seed, 240) as usize;
+            change_and_mend(image, seed, 0, n)
+        }
+        _ => {
+            let n = 65 + below(seed, 190) as usize;
+            change_and_mend(image, seed, 33, n)
+        }
+    }
+}
+
+// Damage to the block of this number.
+fn damage_block(image: &mut [u8], seed: &mut u32, kind: u16, block: usize)
+    requires { ⌜ length (now image) ≡ 17408 ⌝ }
+    requires { ⌜ block < 34 ⌝ }
+{
+    match kind {
+        10 => {
+            let n = below(seed, 255) as usize;
+            change(image, seed, block, n)
+        }
+        11 => change(image, seed, block, 255),
+        12 => change_and_mend(image, seed, block, 0),
+        17 => {
+            let n = 1 + below(seed, 254) as usize;
+            change_and_mend(image, seed, block, n)
+        }
+        _ => {
+            let other = below(seed, 34) as usize;
+            change_and_mend(image, seed, block, 0);
+            change(image, seed, other, 7)
+        }
+    }
+}
+
+// Damage of a kind, in a block of the class where the kind leaves a choice. The last kind is none, and so are any further.
+pub fn damage(image: &mut [u8], seed: &mut u32, state: State, kind: u16, place: u16)
+    requires { ⌜ length (now image) ≡ 17408 ⌝ }
+{
+    if kind < spoiled::WAYS {
+        put_state(image, spoiled::spoiled(seed, state, kind));
+        return;
+    }
+    if 19 <= kind {
+        return;
+    }
+    let block = block_at(seed, place);
+    match kind {
+        13 | 14 | 15 | 16 => damage_content(image, seed, kind),
+        _ => damage_block(image, seed, kind, block),
+    }
+}

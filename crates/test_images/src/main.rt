@@ -1,0 +1,248 @@
+// Images written, damaged and read, with lent parts of the right and of wrong lengths; sums of what came of it.
+ghost use mathlib.Core.Path.{_≡_};
+ghost use Prim.Native.Nat.{_<_, _≤_};
+ghost use lib.ListN.{length};
+ghost use Rattle.memory.specs.Memory.{Installed};
+use machine::State;
+use seeds::below;
+use seeds::lines;
+use seeds::spoiled;
+use seeds::states;
+
+mod damage;
+
+// Lines of the second part of the output, and cases of one of them.
+const LINES: u32 = 128;
+
+const CASES: u32 = 20;
+
+// What reading the image answered, and the sums of all answers of the case, of the memory and of the image.
+struct Outcome {
+    number: u16,
+    block: u16,
+    answers: u32,
+    memory: u32,
+    image: u32,
+}
+
+// The length of a part: the whole, or less.
+fn size(seed: &mut u32, whole: u16) -> usize
+    requires { ⌜ 0 < whole ⌝ }
+    ensures { λ r. ⌜ r ≤ whole ⌝ }
+{
+    let less = below(seed, whole) as usize;
+    if seeds::once_in(seed, 2) {
+        return less;
+    }
+    whole as usize
+}
+
+// A state, well formed or not.
+fn any_state(seed: &mut u32, state: State) -> State {
+    let way = below(seed, 2 * spoiled::WAYS);
+    if way < spoiled::WAYS {
+        return spoiled::spoiled(seed, state, way);
+    }
+    state
+}
+
+// Writes from a part of the memory into a part of the image.
+fn write_parts(bytes: &[u8], image: &mut [u8], seed: &mut u32, state: State) -> u32
+    requires { ⌜ Installed (now bytes) ⌝ }
+    requires { ⌜ length (now image) ≡ 17408 ⌝ }
+{
+    let given = any_state(seed, state);
+    let from = size(seed, 16384);
+    let to = size(seed, 17408);
+    let answer = image::write_image(given, &bytes[0..from], &mut image[0..to]);
+    let after = answer.state;
+    states::mix_state(answer.number as u32, after)
+}
+
+// Reads from a part of the image into a part of the memory.
+fn read_parts(image: &[u8], bytes: &mut [u8], seed: &mut u32, sum: u32) -> u32
+    requires { ⌜ Installed (now bytes) ⌝ }
+    requires { ⌜ length (now image) ≡ 17408 ⌝ }
+{
+    let from = size(seed, 17408);
+    let to = size(seed, 16384);
+    let answer = image::read_image(&image[0..from], &mut bytes[0..to]);
+    let after = answer.state;
+    let numbers = seeds::mix(seeds::mix(sum, answer.number as u32), answer.block as u32);
+    states::mix_state(numbers, after)
+}
+
+// Writes between parts, and then the whole image.
+fn write(bytes: &[u8], image: &mut [u8], seed: &mut u32, state: State) -> u32
+    requires { ⌜ Installed (now bytes) ⌝ }
+    requires { ⌜ length (now image) ≡ 17408 ⌝ }
+{
+    let sum = write_parts(bytes, image, seed, state);
+    let answer = image::write_image(state, bytes, image);
+    let after = answer.state;
+    states::mix_state(seeds::mix(sum, answer.number as u32), after)
+}
+
+// Makes the image of a state and of any bytes, and damages it.
+fn prepare(bytes: &mut [u8], image: &mut [u8], seed: &mut u32, kind: u16, place: u16) -> u32
+    requires { ⌜ Installed (now bytes) ⌝ }
+    requires { ⌜ length (now image) ≡ 17408 ⌝ }
+{
+    seeds::fill(bytes, seed);
+    let flags = below(seed, 4);
+    let state = states::state(seed, flags);
+    let sum = write(bytes, image, seed, state);
+    damage::damage(image, seed, state, kind, place);
+    sum
+}
+
+// Reads between parts, and then the whole image.
+fn read(image: &[u8], bytes: &mut [u8], seed: &mut u32, sum: u32) -> Outcome
+    requires { ⌜ Installed (now bytes) ⌝ }
+    requires { ⌜ length (now image) ≡ 17408 ⌝ }
+{
+    let parts = read_parts(image, bytes, seed, sum);
+    let left = seeds::mix_bytes(parts, bytes);
+    let answer = image::read_image(image, bytes);
+    let state = answer.state;
+    Outcome {
+        number: answer.number,
+        block: answer.block,
+        answers: states::mix_state(left, state),
+        memory: seeds::mix_bytes(0, bytes),
+        image: seeds::mix_bytes(0, image),
+    }
+}
+
+// One case: an image written, damaged, and read into other bytes.
+fn one(bytes: &mut [u8], image: &mut [u8], seed: &mut u32, kind: u16, place: u16) -> Outcome
+    requires { ⌜ Installed (now bytes) ⌝ }
+    requires { ⌜ length (now image) ≡ 17408 ⌝ }
+{
+    let sum = prepare(bytes, image, seed, kind, place);
+    seeds::fill(bytes, seed);
+    read(image, bytes, seed, sum)
+}
+
+// A kind of damage in a class of places, shown by itself.
+fn show(bytes: &mut [u8], image: &mut [u8], seed: &mut u32, kind: u16, place: u16)
+    requires { ⌜ Installed (now bytes) ⌝ }
+    requires { ⌜ length (now image) ≡ 17408 ⌝ }
+{
+    let outcome = one(bytes, image, seed, kind, place);
+    lines::number(kind as u64);
+    lines::number(outcome.number as u64);
+    lines::number(outcome.block as u64);
+    lines::sum(outcome.answers);
+    lines::sum(outcome.memory);
+    lines::last(outcome.image);
+}
+
+// Every kind of damage in every class of places.
+fn every_kind(bytes: &mut [u8], image: &mut [u8], seed: &mut u32)
+    requires { ⌜ Installed (now bytes) ⌝ }
+    requires { ⌜ length (now image) ≡ 17408 ⌝ }
+{
+    let mut n: u16 = 0;
+    while n < damage::KINDS * damage::PLACES {
+        show(bytes, image, seed, n / damage::PLACES, n % damage::PLACES);
+        n += 1;
+    }
+}
+
+// The sum with an outcome more.
+fn mix_outcome(sum: u32, outcome: Outcome) -> u32 {
+    let numbers = seeds::mix(seeds::mix(sum, outcome.number as u32), outcome.block as u32);
+    let answers = seeds::mix(numbers, outcome.answers);
+    seeds::mix(seeds::mix(answers, outcome.memory), outcome.image)
+}
+
+// A line: some cases with any damage, and the sum.
+fn line(bytes: &mut [u8], image: &mut [u8], seed: &mut u32)
+    requires { ⌜ Installed (now bytes) ⌝ }
+    requires { ⌜ length (now image) ≡ 17408 ⌝ }
+{
+    let mut accepted: u64 = 0;
+    let mut sum: u32 = 0;
+    let mut i: u32 = 0;
+    while i < CASES {
+        let kind = below(seed, 2 * damage::KINDS);
+        let place = below(seed, damage::PLACES);
+        let outcome = one(bytes, image, seed, kind, place);
+        sum = mix_outcome(sum, outcome);
+        accepted = std::num::wrapping_add_u64(accepted, (outcome.number == 0) as u64);
+        i += 1;
+    }
+    lines::number(accepted);
+    lines::last(sum);
+}
+
+// Many cases.
+fn many(bytes: &mut [u8], image: &mut [u8], seed: &mut u32)
+    requires { ⌜ Installed (now bytes) ⌝ }
+    requires { ⌜ length (now image) ≡ 17408 ⌝ }
+{
+    let mut n: u32 = 0;
+    while n < LINES {
+        line(bytes, image, seed);
+        n += 1;
+    }
+}
+
+// Writes with a memory or an image that has one byte too many.
+fn write_longer(bytes: &[u8], image: &mut [u8])
+    requires { ⌜ length (now bytes) ≡ 16385 ⌝ }
+    requires { ⌜ length (now image) ≡ 17409 ⌝ }
+{
+    let state = State::blank();
+    let memory = image::write_image(state, bytes, &mut image[0..17408]);
+    let whole = image::write_image(state, &bytes[0..16384], image);
+    lines::number(memory.number as u64);
+    lines::number(whole.number as u64);
+}
+
+// Reads with a memory or an image that has one byte too many.
+fn read_longer(image: &[u8], bytes: &mut [u8])
+    requires { ⌜ length (now bytes) ≡ 16385 ⌝ }
+    requires { ⌜ length (now image) ≡ 17409 ⌝ }
+{
+    let memory = image::read_image(&image[0..17408], bytes);
+    let whole = image::read_image(image, &mut bytes[0..16384]);
+    lines::number(memory.number as u64);
+    lines::number(whole.number as u64);
+}
+
+// The four calls, and the bytes, which they leave.
+fn longer(bytes: &mut [u8], image: &mut [u8])
+    requires { ⌜ length (now bytes) ≡ 16385 ⌝ }
+    requires { ⌜ length (now image) ≡ 17409 ⌝ }
+{
+    write_longer(bytes, image);
+    read_longer(image, bytes);
+    lines::sum(seeds::mix_bytes(0, bytes));
+    lines::last(seeds::mix_bytes(0, image));
+}
+
+// A memory and an image with one byte too many.
+fn show_longer() {
+    let mut bytes = [0u8; 16385];
+    let mut image = [0u8; 17409];
+    longer(&mut bytes, &mut image);
+}
+
+// All cases, on the bytes and the image of the machine's sizes.
+fn all(bytes: &mut [u8], image: &mut [u8])
+    requires { ⌜ Installed (now bytes) ⌝ }
+    requires { ⌜ length (now image) ≡ 17408 ⌝ }
+{
+    let mut seed: u32 = 17408;
+    every_kind(bytes, image, &mut seed);
+    many(bytes, image, &mut seed);
+}
+
+fn main() {
+    let mut bytes = [0u8; 16384];
+    let mut image = [0u8; 17408];
+    show_longer();
+    all(&mut bytes, &mut image);
+}

@@ -1,0 +1,108 @@
+//! Images changed in one place or two, most of them with the block's check word
+//! made right again.
+
+use super::{spoiled, words_of, WAYS};
+use crate::seeds::Seeds;
+use crate::{State, BLOCKS, BLOCK_SIZE};
+
+/// How many kinds of damage there are.
+pub const KINDS: u16 = 20;
+/// Classes of places: the first block, one in the middle, the last.
+pub const PLACES: u16 = 3;
+
+const LAST: usize = BLOCKS - 1;
+/// The check word's number in its block.
+const CHECK: usize = BLOCK_SIZE / 2 - 1;
+
+/// Where word `n` of a block starts.
+fn place_of(block: usize, n: usize) -> usize {
+    BLOCK_SIZE * block + 2 * n
+}
+
+fn word(image: &[u8], block: usize, n: usize) -> u16 {
+    let at = place_of(block, n);
+    u16::from_be_bytes([image[at], image[at + 1]])
+}
+
+fn put(image: &mut [u8], block: usize, n: usize, word: u16) {
+    let at = place_of(block, n);
+    image[at..at + 2].copy_from_slice(&word.to_be_bytes());
+}
+
+/// Adds something other than 0 to a word: to one byte of it or to both.
+fn change(image: &mut [u8], seeds: &mut Seeds, block: usize, n: usize) {
+    let difference = match seeds.below(4) {
+        0 => 1,
+        1 => 256,
+        2 => 65535,
+        _ => 1 + seeds.below(65535),
+    };
+    let changed = word(image, block, n).wrapping_add(difference);
+    put(image, block, n, changed);
+}
+
+/// Makes a block's check word right.
+fn mend(image: &mut [u8], block: usize) {
+    let sum = (0..CHECK).fold(0, |sum: u16, n| sum.wrapping_add(word(image, block, n)));
+    put(image, block, CHECK, 65535 - sum);
+}
+
+fn change_and_mend(image: &mut [u8], seeds: &mut Seeds, block: usize, n: usize) {
+    change(image, seeds, block, n);
+    mend(image, block);
+}
+
+/// A number of words from `first` on.
+fn among(seeds: &mut Seeds, first: usize, count: u16) -> usize {
+    first + usize::from(seeds.below(count))
+}
+
+/// Damage of a kind, in a block of the class where the kind leaves a choice.
+/// The last kind is none, and so are any further.
+pub fn damage(image: &mut [u8], seeds: &mut Seeds, state: State, kind: u16, place: u16) {
+    if kind < WAYS {
+        let bad = spoiled(seeds, state, kind);
+        for (n, word) in words_of(&bad).into_iter().enumerate() {
+            put(image, 0, 3 + n, word);
+        }
+        mend(image, 0);
+        return;
+    }
+    if kind >= KINDS - 1 {
+        return;
+    }
+    let block = match place {
+        0 => 0,
+        1 => among(seeds, 1, 32),
+        _ => LAST,
+    };
+    match kind {
+        10 => {
+            let n = among(seeds, 0, 255);
+            change(image, seeds, block, n);
+        }
+        11 => change(image, seeds, block, CHECK),
+        12 => change_and_mend(image, seeds, block, 0),
+        // format, edition
+        13 => change_and_mend(image, seeds, 0, 1),
+        14 => change_and_mend(image, seeds, 0, 2),
+        // filler
+        15 => {
+            let n = among(seeds, 15, 240);
+            change_and_mend(image, seeds, 0, n);
+        }
+        16 => {
+            let n = among(seeds, 65, 190);
+            change_and_mend(image, seeds, LAST, n);
+        }
+        17 => {
+            let n = among(seeds, 1, 254);
+            change_and_mend(image, seeds, block, n);
+        }
+        _ => {
+            let other = among(seeds, 0, 34);
+            change_and_mend(image, seeds, block, 0);
+            change(image, seeds, other, 7);
+        }
+    }
+}
