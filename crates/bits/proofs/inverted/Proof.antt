@@ -5,12 +5,9 @@ use Rattle.bits.specs.Logic.{inverted}
 use Rattle.bits.proofs.inverted.Statement.{statement}
 use Rattle.bits.proofs.inverted.Tie as tie
 
-sub-result : tie.Need-sub-result
-sub-result c = search needs
-
 returns : tie.Need-returns
 unfolding inverted
 returns c = refl
 
 pub inverted-spec : {M : Type 1} → statement M
-inverted-spec = tie.close (tie.spec sub-result returns)
+inverted-spec = tie.close (tie.spec (λ c. search needs) returns)

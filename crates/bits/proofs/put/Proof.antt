@@ -8,28 +8,16 @@ use Rattle.bits.proofs.Laws.{one-if-byte, one-if-below, put-below, shif
 use Rattle.bits.proofs.put.Statement.{statement}
 use Rattle.bits.proofs.put.Tie as tie
 
-shr-high : tie.Need-shr-high
-shr-high c = search needs
-
-shl-low : tie.Need-shl-low
-shl-low c = search needs
-
 sub-low : tie.Need-sub-low
 sub-low c = shifted-back (c .args .w) (c .args .n) 0 (c .fits .w .fits) (c .pre) (omega arith)
 
 mul-made : tie.Need-mul-made
 mul-made c = omega (arith, div-le-self (c .args .w) (2 ^ c .args .n), c .fits .w .fits)
 
-cast-made : tie.Need-cast-made
-cast-made c = search needs
-
 add-made : tie.Need-add-made
 add-made c =
     rw one-if-byte
     (omega (arith, div-le-self (c .args .w) (2 ^ c .args .n), c .fits .w .fits, one-if-below (c .args .on)))
-
-shl-result : tie.Need-shl-result
-shl-result c = search needs
 
 -- the sum that the code makes is the definition's, which fits
 add-result : tie.Need-add-result
@@ -48,4 +36,4 @@ returns c = rw (one-if-byte, shifts-exact (c .args .w) (c .args .n) (one-if (c .
 
 pub put-spec : {M : Type 1} → statement M
 put-spec =
-    tie.close (tie.spec shr-high shl-low sub-low mul-made cast-made add-made shl-result add-result cast-result returns)
+    tie.close (tie.spec (λ c. search needs) (λ c. search needs) sub-low mul-made (λ c. search needs) add-made (λ c. search needs) add-result cast-result returns)

@@ -5,15 +5,9 @@ use Rattle.bits.specs.Logic.{swapped}
 use Rattle.bits.proofs.swapped.Statement.{statement}
 use Rattle.bits.proofs.swapped.Tie as tie
 
-mul-result : tie.Need-mul-result
-mul-result c = search needs
-
-add-result : tie.Need-add-result
-add-result c = search needs
-
 returns : tie.Need-returns
 unfolding swapped
 returns c = refl
 
 pub swapped-spec : {M : Type 1} → statement M
-swapped-spec = tie.close (tie.spec mul-result add-result returns)
+swapped-spec = tie.close (tie.spec (λ c. search needs) (λ c. search needs) returns)

@@ -5,16 +5,10 @@ use borrow.Author.Needs.{needs}
 use Rattle.image.proofs.content_fault.Statement.{statement}
 use Rattle.image.proofs.content_fault.Tie as tie
 
-field-requires : tie.Need-field-requires
-field-requires c κs = search needs
-
 returns : tie.Need-returns
 unfolding content-fault
 returns c =
     simp (← c .before .field .ensures, ne-eqb _ _ (c .if1 .taken))
-
-field-requires-2 : tie.Need-field-requires-2
-field-requires-2 c κs = search needs
 
 returns-2 : tie.Need-returns-2
 unfolding content-fault
@@ -25,12 +19,6 @@ returns-2 c =
       ← c .before .field2 .ensures,
       ne-eqb _ _ (c .if2 .taken),
     )
-
-state-of-requires : tie.Need-state-of-requires
-state-of-requires c κs = search needs
-
-well-formed-requires : tie.Need-well-formed-requires
-well-formed-requires c κs = search needs
 
 returns-3 : tie.Need-returns-3
 unfolding content-fault
@@ -44,9 +32,6 @@ returns-3 c =
       ← c .before .well-formed .ensures,
       not-true (c .before .well-formed .result) (c .if3 .taken),
     )
-
-filler-clear-requires : tie.Need-filler-clear-requires
-filler-clear-requires c κs = search needs
 
 returns-4 : tie.Need-returns-4
 unfolding content-fault
@@ -82,13 +67,13 @@ pub content-fault-spec : {M : Type 1} → statement M
 content-fault-spec =
     tie.close
     (tie.spec
-    field-requires
+    (λ c κs. search needs)
     returns
-    field-requires-2
+    (λ c κs. search needs)
     returns-2
-    state-of-requires
-    well-formed-requires
+    (λ c κs. search needs)
+    (λ c κs. search needs)
     returns-3
-    filler-clear-requires
+    (λ c κs. search needs)
     returns-4
     returns-5)

@@ -62,9 +62,6 @@ part-copy-start-2 c = omega arith
 part-copy-end-2 : tie.Need-part-copy-end-2 Inv-loop μ-loop
 part-copy-end-2 c = omega arith
 
-copy-requires : tie.Need-copy-requires Inv-loop μ-loop
-copy-requires c κs = search needs
-
 add-i : tie.Need-add-i Inv-loop μ-loop
 add-i c = omega arith
 
@@ -124,7 +121,7 @@ fill-memory-spec =
     sub-copy-2
     part-copy-start-2
     part-copy-end-2
-    copy-requires
+    (λ c κs. search needs)
     add-i
     loop-less
     loop-again

@@ -17,35 +17,11 @@ parts :
     (img : List ℕ) → length img ≡ image-size → zeros (filler-of img) ≡ (zeros (take 480 (drop 30 img)) && zeros (take 380 (drop 17026 img)))
 parts img h = ap zeros (filler-lies img h) ∙ zeros-append (take 480 (drop 30 img)) (take 380 (drop 17026 img))
 
-sub-zeros : tie.Need-sub-zeros
-sub-zeros c = search needs
-
-part-zeros-start : tie.Need-part-zeros-start
-part-zeros-start c = search needs
-
-part-zeros-end : tie.Need-part-zeros-end
-part-zeros-end c = search needs
-
-zeros-requires : tie.Need-zeros-requires
-zeros-requires c κs = search needs
-
 returns : tie.Need-returns
 returns c =
     let img = c .before .before .before .before .args .image .now in
     let rest : c .before .zeros .result ≡ zeros (take 480 (drop 30 img)) = c .before .zeros .ensures in
     rw (parts img (omega arith), ← rest, not-true (c .before .zeros .result) (c .if1 .taken))
-
-sub-zeros-2 : tie.Need-sub-zeros-2
-sub-zeros-2 c = search needs
-
-part-zeros-start-2 : tie.Need-part-zeros-start-2
-part-zeros-start-2 c = search needs
-
-part-zeros-end-2 : tie.Need-part-zeros-end-2
-part-zeros-end-2 c = search needs
-
-zeros-requires-2 : tie.Need-zeros-requires-2
-zeros-requires-2 c κs = search needs
 
 returns-2 : tie.Need-returns-2
 returns-2 c =
@@ -58,13 +34,13 @@ pub filler-clear-spec : {M : Type 1} → statement M
 filler-clear-spec =
     tie.close
     (tie.spec
-    sub-zeros
-    part-zeros-start
-    part-zeros-end
-    zeros-requires
+    (λ c. search needs)
+    (λ c. search needs)
+    (λ c. search needs)
+    (λ c κs. search needs)
     returns
-    sub-zeros-2
-    part-zeros-start-2
-    part-zeros-end-2
-    zeros-requires-2
+    (λ c. search needs)
+    (λ c. search needs)
+    (λ c. search needs)
+    (λ c κs. search needs)
     returns-2)

@@ -28,9 +28,6 @@ abbrev μ-loop : tie.MeasureT-loop
 loop-holds : tie.Need-loop-holds Inv-loop μ-loop
 loop-holds c = (omega arith, refl)
 
-block-fault-requires : tie.Need-block-fault-requires Inv-loop μ-loop
-block-fault-requires c κs = search needs
-
 cast-t5 : tie.Need-cast-t5 Inv-loop μ-loop
 cast-t5 c = omega arith
 
@@ -67,7 +64,7 @@ first-fault-spec =
     Inv-loop
     μ-loop
     loop-holds
-    block-fault-requires
+    (λ c κs. search needs)
     cast-t5
     returns
     add-i

@@ -13,9 +13,6 @@ returns-2 : tie.Need-returns-2
 unfolding read-fault
 returns-2 c = rw (eq-eqb _ _ (c .before .if1 .left), ne-eqb _ _ (c .if2 .taken))
 
-first-fault-requires : tie.Need-first-fault-requires
-first-fault-requires c κs = search needs
-
 returns-3 : tie.Need-returns-3
 unfolding read-fault
 returns-3 c =
@@ -25,9 +22,6 @@ returns-3 c =
       ← c .before .before .first-fault .ensures,
       ne-eqb _ _ (c .if3 .taken),
     )
-
-content-fault-requires : tie.Need-content-fault-requires
-content-fault-requires c κs = search needs
 
 returns-4 : tie.Need-returns-4
 unfolding read-fault
@@ -43,4 +37,4 @@ returns-4 c =
 pub read-fault-spec : {M : Type 1} → statement M
 read-fault-spec =
     tie.close
-    (tie.spec returns returns-2 first-fault-requires returns-3 content-fault-requires returns-4)
+    (tie.spec returns returns-2 (λ c κs. search needs) returns-3 (λ c κs. search needs) returns-4)

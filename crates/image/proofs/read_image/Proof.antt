@@ -7,15 +7,6 @@ use borrow.Author.Needs.{needs}
 use Rattle.image.proofs.read_image.Statement.{statement}
 use Rattle.image.proofs.read_image.Tie as tie
 
-read-fault-requires : tie.Need-read-fault-requires
-read-fault-requires c κs = search needs
-
-blank-requires : tie.Need-blank-requires
-blank-requires c κs = search needs
-
-same-length : tie.Need-same-length
-same-length c = search needs
-
 returns : tie.Need-returns
 unfolding read
 returns c =
@@ -37,9 +28,6 @@ state-of-requires c κs =
     let a = f .before .before .before .before .args in
     accepted (a .image .now) (a .bytes .now) (ap (λ (f : Fault). f .number) (sym (f .read-fault .ensures)) ∙ c .before .before .before .before .if1 .left) .image-sized
 
-same-length-2 : tie.Need-same-length-2
-same-length-2 c = search needs
-
 returns-2 : tie.Need-returns-2
 unfolding read
 returns-2 c =
@@ -53,11 +41,11 @@ pub read-image-spec : {M : Type 1} → statement M
 read-image-spec =
     tie.close
     (tie.spec
-    read-fault-requires
-    blank-requires
-    same-length
+    (λ c κs. search needs)
+    (λ c κs. search needs)
+    (λ c. search needs)
     returns
     fill-memory-requires
     state-of-requires
-    same-length-2
+    (λ c. search needs)
     returns-2)

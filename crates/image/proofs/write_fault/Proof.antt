@@ -13,9 +13,6 @@ returns-2 : tie.Need-returns-2
 unfolding write-fault
 returns-2 c = rw (eq-eqb _ _ (c .before .if1 .left), ne-eqb _ _ (c .if2 .taken))
 
-well-formed-requires : tie.Need-well-formed-requires
-well-formed-requires c κs = search needs
-
 returns-3 : tie.Need-returns-3
 unfolding write-fault
 returns-3 c =
@@ -37,4 +34,4 @@ returns-4 c =
     )
 
 pub write-fault-spec : {M : Type 1} → statement M
-write-fault-spec = tie.close (tie.spec returns returns-2 well-formed-requires returns-3 returns-4)
+write-fault-spec = tie.close (tie.spec returns returns-2 (λ c κs. search needs) returns-3 returns-4)

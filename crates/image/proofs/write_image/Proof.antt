@@ -7,12 +7,6 @@ use borrow.Author.Needs.{needs}
 use Rattle.image.proofs.write_image.Statement.{statement}
 use Rattle.image.proofs.write_image.Tie as tie
 
-write-fault-requires : tie.Need-write-fault-requires
-write-fault-requires c κs = search needs
-
-same-length : tie.Need-same-length
-same-length c = search needs
-
 returns : tie.Need-returns
 unfolding write
 returns c = (
@@ -27,9 +21,6 @@ fill-image-requires c κs =
     let known = writable (a .state) (a .bytes .now) (a .image .now) (sym (f .write-fault .ensures) ∙ c .before .if1 .left) in
     (known .memory-sized, known .image-sized)
 
-same-length-2 : tie.Need-same-length-2
-same-length-2 c = search needs
-
 returns-2 : tie.Need-returns-2
 unfolding write
 returns-2 c =
@@ -41,4 +32,4 @@ returns-2 c =
 pub write-image-spec : {M : Type 1} → statement M
 write-image-spec =
     tie.close
-    (tie.spec write-fault-requires same-length returns fill-image-requires same-length-2 returns-2)
+    (tie.spec (λ c κs. search needs) (λ c. search needs) returns fill-image-requires (λ c. search needs) returns-2)

@@ -5,22 +5,13 @@ use Rattle.isa.specs.Isa.{decoded}
 use Rattle.isa.proofs.decode.Statement.{statement}
 use Rattle.isa.proofs.decode.Tie as tie
 
-dual-requires : tie.Need-dual-requires
-dual-requires c κs = search needs
-
 returns : tie.Need-returns
 unfolding decoded
 returns c = rw (le-leb 0x4000 _ (c .before .if1 .taken)) (c .dual .ensures)
 
-with-register-requires : tie.Need-with-register-requires
-with-register-requires c κs = search needs
-
 returns-2 : tie.Need-returns-2
 unfolding decoded
 returns-2 c = rw (lt-leb 0x4000 _ (c .before .before .if1 .left), le-leb 0x2000 _ (c .before .if2 .taken)) (c .with-register .ensures)
-
-with-displacement-requires : tie.Need-with-displacement-requires
-with-displacement-requires c κs = search needs
 
 returns-3 : tie.Need-returns-3
 unfolding decoded
@@ -30,9 +21,6 @@ returns-3 c =
       lt-leb 0x2000 _ (c .before .before .if2 .left),
       le-leb 0x1000 _ (c .before .if3 .taken),
     ) (c .with-displacement .ensures)
-
-shift-requires : tie.Need-shift-requires
-shift-requires c κs = search needs
 
 returns-4 : tie.Need-returns-4
 unfolding decoded
@@ -44,9 +32,6 @@ returns-4 c =
       le-leb 0x0800 _ (c .before .if4 .taken),
     ) (c .shift .ensures)
 
-single-requires : tie.Need-single-requires
-single-requires c κs = search needs
-
 returns-5 : tie.Need-returns-5
 unfolding decoded
 returns-5 c =
@@ -57,9 +42,6 @@ returns-5 c =
       lt-leb 0x0800 _ (c .before .before .if4 .left),
       le-leb 0x0400 _ (c .before .if5 .taken),
     ) (c .single .ensures)
-
-immediate-requires : tie.Need-immediate-requires
-immediate-requires c κs = search needs
 
 returns-6 : tie.Need-returns-6
 unfolding decoded
@@ -86,4 +68,4 @@ returns-7 c =
     )
 
 pub decode-spec : {M : Type 1} → statement M
-decode-spec = tie.close (tie.spec dual-requires returns with-register-requires returns-2 with-displacement-requires returns-3 shift-requires returns-4 single-requires returns-5 immediate-requires returns-6 returns-7)
+decode-spec = tie.close (tie.spec (λ c κs. search needs) returns (λ c κs. search needs) returns-2 (λ c κs. search needs) returns-3 (λ c κs. search needs) returns-4 (λ c κs. search needs) returns-5 (λ c κs. search needs) returns-6 returns-7)

@@ -4,12 +4,9 @@ use Rattle.isa.specs.Isa.{destination}
 use Rattle.isa.proofs.destination.Statement.{statement}
 use Rattle.isa.proofs.destination.Tie as tie
 
-source-requires : tie.Need-source-requires
-source-requires c κs = search needs
-
 returns : tie.Need-returns
 unfolding destination
 returns c = c .source .ensures
 
 pub destination-spec : {M : Type 1} → statement M
-destination-spec = tie.close (tie.spec source-requires returns)
+destination-spec = tie.close (tie.spec (λ c κs. search needs) returns)

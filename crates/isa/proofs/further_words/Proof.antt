@@ -6,84 +6,9 @@ use Rattle.isa.specs.Isa.{further-words}
 use Rattle.isa.proofs.further_words.Statement.{statement}
 use Rattle.isa.proofs.further_words.Tie as tie
 
-enum-known-instruction : tie.Need-enum-known-instruction
-enum-known-instruction c = search needs
-
-operand-words-requires : tie.Need-operand-words-requires
-operand-words-requires c κs = search needs
-
-operand-words-requires-2 : tie.Need-operand-words-requires-2
-operand-words-requires-2 c κs = search needs
-
 add-result : tie.Need-add-result
 add-result c =
     omega (arith, operand-words-at-most _ (c .before .operand-words .ensures), operand-words-at-most _ (c .operand-words2 .ensures))
-
-enum-known-instruction-2 : tie.Need-enum-known-instruction-2
-enum-known-instruction-2 c = search needs
-
-operand-words-requires-3 : tie.Need-operand-words-requires-3
-operand-words-requires-3 c κs = search needs
-
-enum-known-instruction-3 : tie.Need-enum-known-instruction-3
-enum-known-instruction-3 c = search needs
-
-operand-words-requires-4 : tie.Need-operand-words-requires-4
-operand-words-requires-4 c κs = search needs
-
-enum-known-instruction-4 : tie.Need-enum-known-instruction-4
-enum-known-instruction-4 c = search needs
-
-operand-words-requires-5 : tie.Need-operand-words-requires-5
-operand-words-requires-5 c κs = search needs
-
-enum-told : tie.Need-enum-told
-enum-told c = search needs
-
-enum-told-2 : tie.Need-enum-told-2
-enum-told-2 c = search needs
-
-enum-told-3 : tie.Need-enum-told-3
-enum-told-3 c = search needs
-
-enum-known-instruction-5 : tie.Need-enum-known-instruction-5
-enum-known-instruction-5 c = search needs
-
-operand-words-requires-6 : tie.Need-operand-words-requires-6
-operand-words-requires-6 c κs = search needs
-
-enum-known-instruction-6 : tie.Need-enum-known-instruction-6
-enum-known-instruction-6 c = search needs
-
-operand-words-requires-7 : tie.Need-operand-words-requires-7
-operand-words-requires-7 c κs = search needs
-
-enum-known-instruction-7 : tie.Need-enum-known-instruction-7
-enum-known-instruction-7 c = search needs
-
-operand-words-requires-8 : tie.Need-operand-words-requires-8
-operand-words-requires-8 c κs = search needs
-
-enum-told-4 : tie.Need-enum-told-4
-enum-told-4 c = search needs
-
-enum-told-5 : tie.Need-enum-told-5
-enum-told-5 c = search needs
-
-enum-told-6 : tie.Need-enum-told-6
-enum-told-6 c = search needs
-
-enum-told-7 : tie.Need-enum-told-7
-enum-told-7 c = search needs
-
-enum-told-8 : tie.Need-enum-told-8
-enum-told-8 c = search needs
-
-enum-told-9 : tie.Need-enum-told-9
-enum-told-9 c = search needs
-
-enum-told-10 : tie.Need-enum-told-10
-enum-told-10 c = search needs
 
 returns : tie.Need-returns
 unfolding further-words
@@ -157,32 +82,32 @@ pub further-words-spec : {M : Type 1} → statement M
 further-words-spec =
     tie.close
     (tie.spec
-    enum-known-instruction
-    operand-words-requires
-    operand-words-requires-2
+    (λ c. search needs)
+    (λ c κs. search needs)
+    (λ c κs. search needs)
     add-result
-    enum-known-instruction-2
-    operand-words-requires-3
-    enum-known-instruction-3
-    operand-words-requires-4
-    enum-known-instruction-4
-    operand-words-requires-5
-    enum-told
-    enum-told-2
-    enum-told-3
-    enum-known-instruction-5
-    operand-words-requires-6
-    enum-known-instruction-6
-    operand-words-requires-7
-    enum-known-instruction-7
-    operand-words-requires-8
-    enum-told-4
-    enum-told-5
-    enum-told-6
-    enum-told-7
-    enum-told-8
-    enum-told-9
-    enum-told-10
+    (λ c. search needs)
+    (λ c κs. search needs)
+    (λ c. search needs)
+    (λ c κs. search needs)
+    (λ c. search needs)
+    (λ c κs. search needs)
+    (λ c. search needs)
+    (λ c. search needs)
+    (λ c. search needs)
+    (λ c. search needs)
+    (λ c κs. search needs)
+    (λ c. search needs)
+    (λ c κs. search needs)
+    (λ c. search needs)
+    (λ c κs. search needs)
+    (λ c. search needs)
+    (λ c. search needs)
+    (λ c. search needs)
+    (λ c. search needs)
+    (λ c. search needs)
+    (λ c. search needs)
+    (λ c. search needs)
     returns
     returns-2
     returns-3

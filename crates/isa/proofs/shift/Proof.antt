@@ -5,9 +5,6 @@ use Rattle.isa.specs.Isa.{shift}
 use Rattle.isa.proofs.shift.Statement.{statement}
 use Rattle.isa.proofs.shift.Tie as tie
 
-shift-operation-requires : tie.Need-shift-operation-requires
-shift-operation-requires c κs = search needs
-
 returns : tie.Need-returns
 unfolding shift
 returns c = rw (lt-ltb _ 0x0C00 (c .before .if1 .taken), c .shift-operation .ensures)
@@ -17,4 +14,4 @@ unfolding shift
 returns-2 c = rw (le-ltb _ 0x0C00 (c .if1 .left))
 
 pub shift-spec : {M : Type 1} → statement M
-shift-spec = tie.close (tie.spec shift-operation-requires returns returns-2)
+shift-spec = tie.close (tie.spec (λ c κs. search needs) returns returns-2)

@@ -5,12 +5,6 @@ use Rattle.isa.specs.Isa.{single}
 use Rattle.isa.proofs.single.Statement.{statement}
 use Rattle.isa.proofs.single.Tie as tie
 
-source-requires : tie.Need-source-requires
-source-requires c κs = search needs
-
-single-operation-requires : tie.Need-single-operation-requires
-single-operation-requires c κs = search needs
-
 returns : tie.Need-returns
 unfolding single
 returns c = rw (lt-ltb _ 0x0780 (c .before .before .if1 .taken), c .match .keys1, c .before .source .ensures)
@@ -30,4 +24,4 @@ returns-4 c = rw (le-ltb _ 0x0780 (c .if1 .left))
 
 pub single-spec : {M : Type 1} → statement M
 single-spec =
-    tie.close (tie.spec source-requires single-operation-requires returns returns-2 returns-3 returns-4)
+    tie.close (tie.spec (λ c κs. search needs) (λ c κs. search needs) returns returns-2 returns-3 returns-4)

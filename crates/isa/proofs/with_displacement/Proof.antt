@@ -5,12 +5,6 @@ use Rattle.isa.specs.Isa.{with-displacement}
 use Rattle.isa.proofs.with_displacement.Statement.{statement}
 use Rattle.isa.proofs.with_displacement.Tie as tie
 
-jump-operation-requires : tie.Need-jump-operation-requires
-jump-operation-requires c κs = search needs
-
-bit-operation-requires : tie.Need-bit-operation-requires
-bit-operation-requires c κs = search needs
-
 returns : tie.Need-returns
 unfolding with-displacement
 returns c = rw (lt-ltb _ 0x1D00 (c .before .if1 .taken), c .jump-operation .ensures)
@@ -20,4 +14,4 @@ unfolding with-displacement
 returns-2 c = rw (le-ltb _ 0x1D00 (c .before .if1 .left), c .bit-operation .ensures)
 
 pub with-displacement-spec : {M : Type 1} → statement M
-with-displacement-spec = tie.close (tie.spec jump-operation-requires bit-operation-requires returns returns-2)
+with-displacement-spec = tie.close (tie.spec (λ c κs. search needs) (λ c κs. search needs) returns returns-2)

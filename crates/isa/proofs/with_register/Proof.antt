@@ -5,12 +5,6 @@ use Rattle.isa.specs.Isa.{with-register}
 use Rattle.isa.proofs.with_register.Statement.{statement}
 use Rattle.isa.proofs.with_register.Tie as tie
 
-source-requires : tie.Need-source-requires
-source-requires c κs = search needs
-
-register-operation-requires : tie.Need-register-operation-requires
-register-operation-requires c κs = search needs
-
 returns : tie.Need-returns
 unfolding with-register
 returns c = rw (c .match .keys1, c .before .source .ensures)
@@ -30,4 +24,4 @@ returns-4 c =
 
 pub with-register-spec : {M : Type 1} → statement M
 with-register-spec =
-    tie.close (tie.spec source-requires register-operation-requires returns returns-2 returns-3 returns-4)
+    tie.close (tie.spec (λ c κs. search needs) (λ c κs. search needs) returns returns-2 returns-3 returns-4)

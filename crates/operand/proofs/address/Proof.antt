@@ -6,38 +6,17 @@ use borrow.Author.Needs.{needs}
 use Rattle.operand.proofs.address.Statement.{statement}
 use Rattle.operand.proofs.address.Tie as tie
 
-register-at-requires : tie.Need-register-at-requires
-register-at-requires c κs = search needs
-
 returns : tie.Need-returns
 unfolding operand
 returns c v = simp (eq-eqb _ _ (c .before .if1 .taken)) (rw (perform-bind, perform-registers, perform-done, c .register-at .ensures))
-
-register-requires : tie.Need-register-requires
-register-requires c κs = search needs
-
-same-length : tie.Need-same-length
-same-length c = search needs
 
 returns-2 : tie.Need-returns-2
 unfolding operand
 returns-2 c v = simp (ne-eqb _ _ (c .before .before .before .if1 .left), eq-eqb _ _ (c .before .before .if2 .taken)) (c .register .ensures v)
 
-indexed-requires : tie.Need-indexed-requires
-indexed-requires c κs = search needs
-
-same-length-2 : tie.Need-same-length-2
-same-length-2 c = search needs
-
 returns-3 : tie.Need-returns-3
 unfolding operand
 returns-3 c v = simp (ne-eqb _ _ (c .before .before .before .before .if1 .left), ne-eqb _ _ (c .before .before .before .if2 .left), eq-eqb _ _ (c .before .before .if3 .taken)) (c .indexed .ensures v)
-
-stepped-requires : tie.Need-stepped-requires
-stepped-requires c κs = search needs
-
-same-length-3 : tie.Need-same-length-3
-same-length-3 c = search needs
 
 returns-4 : tie.Need-returns-4
 unfolding operand
@@ -47,14 +26,14 @@ pub address-spec : {M : Type 1} → statement M
 address-spec =
     tie.close
     (tie.spec
-    register-at-requires
+    (λ c κs. search needs)
     returns
-    register-requires
-    same-length
+    (λ c κs. search needs)
+    (λ c. search needs)
     returns-2
-    indexed-requires
-    same-length-2
+    (λ c κs. search needs)
+    (λ c. search needs)
     returns-3
-    stepped-requires
-    same-length-3
+    (λ c κs. search needs)
+    (λ c. search needs)
     returns-4)

@@ -9,18 +9,9 @@ use borrow.Author.Needs.{needs}
 use Rattle.operand.proofs.indexed.Statement.{statement}
 use Rattle.operand.proofs.indexed.Tie as tie
 
-fetch-requires : tie.Need-fetch-requires
-fetch-requires c κs = search needs
-
 returns : tie.Need-returns
 unfolding indexed
 returns c v = rw (perform-bind, c .before .before .fetch .ensures v, eq-eqb _ _ (c .if1 .taken), perform-done, add-zero, mod-eq-of-lt (let h : c .before .before .fetch .result .value < 65536 = omega arith in h))
-
-register-requires : tie.Need-register-requires
-register-requires c κs = search needs
-
-wrapping-add-u16-requires : tie.Need-wrapping-add-u16-requires
-wrapping-add-u16-requires c κs = search needs
 
 returns-2 : tie.Need-returns-2
 unfolding indexed
@@ -29,4 +20,4 @@ returns-2 c v = rw (perform-bind, c .before .before .before .before .before .fet
 pub indexed-spec : {M : Type 1} → statement M
 indexed-spec =
     tie.close
-    (tie.spec fetch-requires returns register-requires wrapping-add-u16-requires returns-2)
+    (tie.spec (λ c κs. search needs) returns (λ c κs. search needs) (λ c κs. search needs) returns-2)

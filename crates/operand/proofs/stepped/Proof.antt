@@ -5,21 +5,6 @@ use borrow.Author.Needs.{needs}
 use Rattle.operand.proofs.stepped.Statement.{statement}
 use Rattle.operand.proofs.stepped.Tie as tie
 
-register-requires : tie.Need-register-requires
-register-requires c κs = search needs
-
-bytes-requires : tie.Need-bytes-requires
-bytes-requires c κs = search needs
-
-wrapping-add-u16-requires : tie.Need-wrapping-add-u16-requires
-wrapping-add-u16-requires c κs = search needs
-
-set-register-requires : tie.Need-set-register-requires
-set-register-requires c κs = search needs
-
-same-length : tie.Need-same-length
-same-length c = search needs
-
 returns : tie.Need-returns
 unfolding stepped
 returns c v = rw (perform-bind, c .before .before .before .before .before .before .before .register .ensures v, ← c .before .before .before .before .before .bytes .ensures, ← c .before .before .before .before .wrapping-add-u16 .ensures, perform-bind, c .before .before .set-register .ensures v, perform-done)
@@ -28,9 +13,9 @@ pub stepped-spec : {M : Type 1} → statement M
 stepped-spec =
     tie.close
     (tie.spec
-    register-requires
-    bytes-requires
-    wrapping-add-u16-requires
-    set-register-requires
-    same-length
+    (λ c κs. search needs)
+    (λ c κs. search needs)
+    (λ c κs. search needs)
+    (λ c κs. search needs)
+    (λ c. search needs)
     returns)

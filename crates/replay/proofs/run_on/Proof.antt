@@ -7,15 +7,6 @@ use borrow.Author.Needs.{needs}
 use Rattle.replay.proofs.run_on.Statement.{statement}
 use Rattle.replay.proofs.run_on.Tie as tie
 
-records-requires : tie.Need-records-requires
-records-requires c κs = search needs
-
-record-count-requires : tie.Need-record-count-requires
-record-count-requires c κs = search needs
-
-array-share-prefix-records : tie.Need-array-share-prefix-records
-array-share-prefix-records c = search needs
-
 slice-aggregate-run : tie.Need-slice-aggregate-run
 slice-aggregate-run c =
     let file = c .before .before .before .before .before .args .file .now in
@@ -23,23 +14,14 @@ slice-aggregate-run c =
     let all = c .before .before .before .records in
     n .ensures .1 ∙ ap length (sym (ap (take (n .result)) (all .ensures) ∙ take-at (Pins.records file) (drop (length (Pins.records file)) (replicate Pins.most 0)) (n .result) (sym (n .ensures .1))))
 
-stop-requires : tie.Need-stop-requires
-stop-requires c κs = search needs
-
-run-requires : tie.Need-run-requires
-run-requires c κs = search needs
-
-returns : tie.Need-returns
-returns c = search needs
-
 pub run-on-spec : {M : Type 1} → statement M
 run-on-spec =
     tie.close
     (tie.spec
-    records-requires
-    record-count-requires
-    array-share-prefix-records
+    (λ c κs. search needs)
+    (λ c κs. search needs)
+    (λ c. search needs)
     slice-aggregate-run
-    stop-requires
-    run-requires
-    returns)
+    (λ c κs. search needs)
+    (λ c κs. search needs)
+    (λ c. search needs))

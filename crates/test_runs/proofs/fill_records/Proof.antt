@@ -13,32 +13,11 @@ Inv-loop records₀ seed₀ quiet i₀ records seed i = (length records ≡ leng
 abbrev μ-loop : tie.MeasureT-loop
 μ-loop records₀ seed₀ quiet i₀ records seed i = length records - i
 
-loop-holds : tie.Need-loop-holds Inv-loop μ-loop
-loop-holds c = search needs
-
-record-requires : tie.Need-record-requires Inv-loop μ-loop
-record-requires c κs = search needs
-
-mul-records : tie.Need-mul-records Inv-loop μ-loop
-mul-records c = search needs
-
-slice-write-records : tie.Need-slice-write-records Inv-loop μ-loop
-slice-write-records c = search needs
-
-add-i : tie.Need-add-i Inv-loop μ-loop
-add-i c = search needs
-
 loop-less : tie.Need-loop-less Inv-loop μ-loop
 loop-less c = simp length-set (omega arith)
 
 loop-again : tie.Need-loop-again Inv-loop μ-loop
 loop-again c = simp length-set (omega arith)
-
-same-length : tie.Need-same-length Inv-loop μ-loop
-same-length c = search needs
-
-returns : tie.Need-returns Inv-loop μ-loop
-returns c = search needs
 
 pub fill-records-spec : {M : Type 1} → statement M
 fill-records-spec =
@@ -46,12 +25,12 @@ fill-records-spec =
     (tie.spec
     Inv-loop
     μ-loop
-    loop-holds
-    record-requires
-    mul-records
-    slice-write-records
-    add-i
+    (λ c. search needs)
+    (λ c κs. search needs)
+    (λ c. search needs)
+    (λ c. search needs)
+    (λ c. search needs)
     loop-less
     loop-again
-    same-length
-    returns)
+    (λ c. search needs)
+    (λ c. search needs))

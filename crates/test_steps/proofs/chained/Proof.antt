@@ -12,65 +12,23 @@ Inv-loop bytes₀ seed wp word first further n₀ bytes n = (length bytes ≡ le
 abbrev μ-loop : tie.MeasureT-loop
 μ-loop bytes₀ seed wp word first further n₀ bytes n = first + further - n
 
-below-requires : tie.Need-below-requires Inv-loop μ-loop
-below-requires c κs = search needs
-
-below-requires-2 : tie.Need-below-requires-2 Inv-loop μ-loop
-below-requires-2 c κs = search needs
-
-loop-holds : tie.Need-loop-holds Inv-loop μ-loop
-loop-holds c = search needs
-
-add-loop : tie.Need-add-loop Inv-loop μ-loop
-add-loop c = search needs
-
-add-put-register : tie.Need-add-put-register Inv-loop μ-loop
-add-put-register c = search needs
-
-add-put-register-2 : tie.Need-add-put-register-2 Inv-loop μ-loop
-add-put-register-2 c = search needs
-
-put-register-requires : tie.Need-put-register-requires Inv-loop μ-loop
-put-register-requires c κs = search needs
-
-add-n : tie.Need-add-n Inv-loop μ-loop
-add-n c = search needs
-
-loop-less : tie.Need-loop-less Inv-loop μ-loop
-loop-less c = search needs
-
-loop-again : tie.Need-loop-again Inv-loop μ-loop
-loop-again c = search needs
-
-put-register-requires-2 : tie.Need-put-register-requires-2 Inv-loop μ-loop
-put-register-requires-2 c κs = search needs
-
-add-result : tie.Need-add-result Inv-loop μ-loop
-add-result c = search needs
-
-same-length : tie.Need-same-length Inv-loop μ-loop
-same-length c = search needs
-
-returns : tie.Need-returns Inv-loop μ-loop
-returns c = search needs
-
 pub chained-spec : {M : Type 1} → statement M
 chained-spec =
     tie.close
     (tie.spec
     Inv-loop
     μ-loop
-    below-requires
-    below-requires-2
-    loop-holds
-    add-loop
-    add-put-register
-    add-put-register-2
-    put-register-requires
-    add-n
-    loop-less
-    loop-again
-    put-register-requires-2
-    add-result
-    same-length
-    returns)
+    (λ c κs. search needs)
+    (λ c κs. search needs)
+    (λ c. search needs)
+    (λ c. search needs)
+    (λ c. search needs)
+    (λ c. search needs)
+    (λ c κs. search needs)
+    (λ c. search needs)
+    (λ c. search needs)
+    (λ c. search needs)
+    (λ c κs. search needs)
+    (λ c. search needs)
+    (λ c. search needs)
+    (λ c. search needs))

@@ -14,28 +14,10 @@ returns : tie.Need-returns
 unfolding divided
 returns c = simp (le-leb (c .before .args .d) (c .before .args .p .high) (omega arith))
 
-cast-all : tie.Need-cast-all
-cast-all c = search needs
-
-mul-all : tie.Need-mul-all
-mul-all c = search needs
-
-cast-all-2 : tie.Need-cast-all-2
-cast-all-2 c = search needs
-
-add-all : tie.Need-add-all
-add-all c = search needs
-
-div-t7 : tie.Need-div-t7
-div-t7 c = search needs
-
 cast-t10 : tie.Need-cast-t10
 cast-t10 c =
     let a = c .before .before .args in
     record { fits = quotient-below (a .d) (a .p .high) (a .p .low) (omega arith) (omega arith) }
-
-rem-t9 : tie.Need-rem-t9
-rem-t9 c = search needs
 
 cast-t11 : tie.Need-cast-t11
 cast-t11 c =
@@ -52,12 +34,12 @@ divided-spec =
     tie.close
     (tie.spec
     returns
-    cast-all
-    mul-all
-    cast-all-2
-    add-all
-    div-t7
+    (λ c. search needs)
+    (λ c. search needs)
+    (λ c. search needs)
+    (λ c. search needs)
+    (λ c. search needs)
     cast-t10
-    rem-t9
+    (λ c. search needs)
     cast-t11
     returns-2)

@@ -5,24 +5,6 @@ use borrow.Author.Needs.{needs}
 use Rattle.alu.proofs.shifts.shift_overflow.Statement.{statement}
 use Rattle.alu.proofs.shifts.shift_overflow.Tie as tie
 
-enum-told : tie.Need-enum-told
-enum-told c = search needs
-
-sign-changes-requires : tie.Need-sign-changes-requires
-sign-changes-requires c κs = search needs
-
-put-requires : tie.Need-put-requires
-put-requires c κs = search needs
-
-enum-told-2 : tie.Need-enum-told-2
-enum-told-2 c = search needs
-
-enum-told-3 : tie.Need-enum-told-3
-enum-told-3 c = search needs
-
-enum-told-4 : tie.Need-enum-told-4
-enum-told-4 c = search needs
-
 returns : tie.Need-returns
 unfolding shift-overflow
 returns c = rw (c .before .before .enum-told .given .1, c .put .ensures, c .before .sign-changes .ensures) refl
@@ -43,12 +25,12 @@ pub shift-overflow-spec : {M : Type 1} → statement M
 shift-overflow-spec =
     tie.close
     (tie.spec
-    enum-told
-    sign-changes-requires
-    put-requires
-    enum-told-2
-    enum-told-3
-    enum-told-4
+    (λ c. search needs)
+    (λ c κs. search needs)
+    (λ c κs. search needs)
+    (λ c. search needs)
+    (λ c. search needs)
+    (λ c. search needs)
     returns
     returns-2
     returns-3

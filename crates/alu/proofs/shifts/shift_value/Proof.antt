@@ -19,30 +19,6 @@ turned : (c : tie.After-weight3)
     ≡ c .before .before .before .before .args .v % 2 ^ c .before .before .before .before .args .k * 2 ^ (16 - c .before .before .before .before .args .k)
 turned c = rw (c .before .weight2 .ensures, c .weight3 .ensures, and-mask (c .before .before .before .before .args .v) (c .before .before .before .before .args .k))
 
-shr-high : tie.Need-shr-high
-shr-high c = search needs
-
-enum-told : tie.Need-enum-told
-enum-told c = search needs
-
-shl-result : tie.Need-shl-result
-shl-result c = search needs
-
-cast-result : tie.Need-cast-result
-cast-result c = search needs
-
-enum-told-2 : tie.Need-enum-told-2
-enum-told-2 c = search needs
-
-bit-requires : tie.Need-bit-requires
-bit-requires c κs = search needs
-
-sub-weight : tie.Need-sub-weight
-sub-weight c = search needs
-
-weight-requires : tie.Need-weight-requires
-weight-requires c κs = search needs
-
 sub-result : tie.Need-sub-result
 sub-result c = omega (arith, c .weight .ensures, room-of (c .before .before .before .before .before))
 
@@ -55,26 +31,11 @@ cast-result-2 c = omega (arith, c .weight .ensures, room-of (c .before .before .
 cast-result-3 : tie.Need-cast-result-3
 cast-result-3 c = omega (arith, room-of (c .before .before .before .before))
 
-enum-told-3 : tie.Need-enum-told-3
-enum-told-3 c = search needs
-
 cast-result-4 : tie.Need-cast-result-4
 cast-result-4 c = omega (arith, room-of (c .before .before))
 
-enum-told-4 : tie.Need-enum-told-4
-enum-told-4 c = search needs
-
-weight-requires-2 : tie.Need-weight-requires-2
-weight-requires-2 c κs = search needs
-
 sub-result-2 : tie.Need-sub-result-2
 sub-result-2 c = omega (arith, c .weight2 .ensures, pow-pos (c .before .before .before .args .k))
-
-sub-weight-2 : tie.Need-sub-weight-2
-sub-weight-2 c = search needs
-
-weight-requires-3 : tie.Need-weight-requires-3
-weight-requires-3 c κs = search needs
 
 mul-result : tie.Need-mul-result
 mul-result c = rw (turned c) (omega (arith, room-of (c .before .before .before .before)))
@@ -109,25 +70,25 @@ pub shift-value-spec : {M : Type 1} → statement M
 shift-value-spec =
     tie.close
     (tie.spec
-    shr-high
-    enum-told
-    shl-result
-    cast-result
-    enum-told-2
-    bit-requires
-    sub-weight
-    weight-requires
+    (λ c. search needs)
+    (λ c. search needs)
+    (λ c. search needs)
+    (λ c. search needs)
+    (λ c. search needs)
+    (λ c κs. search needs)
+    (λ c. search needs)
+    (λ c κs. search needs)
     sub-result
     add-result
     cast-result-2
     cast-result-3
-    enum-told-3
+    (λ c. search needs)
     cast-result-4
-    enum-told-4
-    weight-requires-2
+    (λ c. search needs)
+    (λ c κs. search needs)
     sub-result-2
-    sub-weight-2
-    weight-requires-3
+    (λ c. search needs)
+    (λ c κs. search needs)
     mul-result
     add-result-2
     cast-result-5

@@ -6,26 +6,14 @@ use borrow.Author.Needs.{needs}
 use Rattle.alu.proofs.shifts.shifted.Statement.{statement}
 use Rattle.alu.proofs.shifts.shifted.Tie as tie
 
-amount-requires : tie.Need-amount-requires
-amount-requires c κs = search needs
-
-cast-k : tie.Need-cast-k
-cast-k c = search needs
-
 shift-value-requires : tie.Need-shift-value-requires
 shift-value-requires c κs = omega (arith, c .amount .ensures, amount-bounds (c .before .args .n))
-
-compared-requires : tie.Need-compared-requires
-compared-requires c κs = search needs
 
 shift-overflow-requires : tie.Need-shift-overflow-requires
 shift-overflow-requires c κs = omega (arith, c .before .before .amount .ensures, amount-bounds (c .before .before .before .args .n))
 
 shift-carry-requires : tie.Need-shift-carry-requires
 shift-carry-requires c κs = omega (arith, c .before .before .before .amount .ensures, amount-bounds (c .before .before .before .before .args .n))
-
-put-requires : tie.Need-put-requires
-put-requires c κs = search needs
 
 returns : tie.Need-returns
 unfolding shifted
@@ -35,11 +23,11 @@ pub shifted-spec : {M : Type 1} → statement M
 shifted-spec =
     tie.close
     (tie.spec
-    amount-requires
-    cast-k
+    (λ c κs. search needs)
+    (λ c. search needs)
     shift-value-requires
-    compared-requires
+    (λ c κs. search needs)
     shift-overflow-requires
     shift-carry-requires
-    put-requires
+    (λ c κs. search needs)
     returns)

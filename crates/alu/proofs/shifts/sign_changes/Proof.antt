@@ -5,15 +5,6 @@ use borrow.Author.Needs.{needs}
 use Rattle.alu.proofs.shifts.sign_changes.Statement.{statement}
 use Rattle.alu.proofs.shifts.sign_changes.Tie as tie
 
-sub-weight : tie.Need-sub-weight
-sub-weight c = search needs
-
-weight-requires : tie.Need-weight-requires
-weight-requires c κs = search needs
-
-mul-twice : tie.Need-mul-twice
-mul-twice c = search needs
-
 sub-result : tie.Need-sub-result
 sub-result c = omega (arith, c .weight .ensures, room (c .before .args .v) (c .before .args .k) (c .before .fits .v .fits) (c .before .pre))
 
@@ -21,4 +12,4 @@ returns : tie.Need-returns
 returns c = rw (changes-is (c .before .args .k) (c .before .args .v) (c .before .pre) (c .before .fits .v .fits), c .weight .ensures)
 
 pub sign-changes-spec : {M : Type 1} → statement M
-sign-changes-spec = tie.close (tie.spec sub-weight weight-requires mul-twice sub-result returns)
+sign-changes-spec = tie.close (tie.spec (λ c. search needs) (λ c κs. search needs) (λ c. search needs) sub-result returns)

@@ -7,9 +7,6 @@ use borrow.Author.Needs.{needs}
 use Rattle.alu.proofs.shifts.weight.Statement.{statement}
 use Rattle.alu.proofs.shifts.weight.Tie as tie
 
-shl-result : tie.Need-shl-result
-shl-result c = search needs
-
 returns : tie.Need-returns
 returns c =
     let small : 2 ^ c .args .k ≤ 2 ^ 16 = pow-mono (c .pre) in
@@ -17,4 +14,4 @@ returns c =
     rw (one-mul, mod-eq-of-lt below)
 
 pub weight-spec : {M : Type 1} → statement M
-weight-spec = tie.close (tie.spec shl-result returns)
+weight-spec = tie.close (tie.spec (λ c. search needs) returns)

@@ -5,21 +5,6 @@ use borrow.Author.Needs.{needs}
 use Rattle.alu.proofs.status.compared.Statement.{statement}
 use Rattle.alu.proofs.status.compared.Tie as tie
 
-put-requires : tie.Need-put-requires
-put-requires c κs = search needs
-
-raised-requires : tie.Need-raised-requires
-raised-requires c κs = search needs
-
-raised-requires-2 : tie.Need-raised-requires-2
-raised-requires-2 c κs = search needs
-
-put-requires-2 : tie.Need-put-requires-2
-put-requires-2 c κs = search needs
-
-put-requires-3 : tie.Need-put-requires-3
-put-requires-3 c κs = search needs
-
 returns : tie.Need-returns
 unfolding compared
 returns c = rw (c .put3 .ensures, c .before .put2 .ensures, c .before .before .raised2 .ensures, c .before .before .before .raised .ensures, c .before .before .before .before .put .ensures) refl
@@ -27,4 +12,4 @@ returns c = rw (c .put3 .ensures, c .before .put2 .ensures, c .before .before .r
 pub compared-spec : {M : Type 1} → statement M
 compared-spec =
     tie.close
-    (tie.spec put-requires raised-requires raised-requires-2 put-requires-2 put-requires-3 returns)
+    (tie.spec (λ c κs. search needs) (λ c κs. search needs) (λ c κs. search needs) (λ c κs. search needs) (λ c κs. search needs) returns)

@@ -4,15 +4,9 @@ use borrow.Author.Needs.{needs}
 use Rattle.alu.proofs.status.judged.Statement.{statement}
 use Rattle.alu.proofs.status.judged.Tie as tie
 
-compared-requires : tie.Need-compared-requires
-compared-requires c κs = search needs
-
-parity-requires : tie.Need-parity-requires
-parity-requires c κs = search needs
-
 returns : tie.Need-returns
 unfolding judged
 returns c = rw (c .parity .ensures, c .before .compared .ensures)
 
 pub judged-spec : {M : Type 1} → statement M
-judged-spec = tie.close (tie.spec compared-requires parity-requires returns)
+judged-spec = tie.close (tie.spec (λ c κs. search needs) (λ c κs. search needs) returns)

@@ -4,96 +4,6 @@ use borrow.Author.Needs.{needs}
 use Rattle.alu.proofs.status.jumps.Statement.{statement}
 use Rattle.alu.proofs.status.jumps.Tie as tie
 
-enum-told : tie.Need-enum-told
-enum-told c = search needs
-
-enum-told-2 : tie.Need-enum-told-2
-enum-told-2 c = search needs
-
-bit-requires : tie.Need-bit-requires
-bit-requires c κs = search needs
-
-bit-requires-2 : tie.Need-bit-requires-2
-bit-requires-2 c κs = search needs
-
-enum-told-3 : tie.Need-enum-told-3
-enum-told-3 c = search needs
-
-bit-requires-3 : tie.Need-bit-requires-3
-bit-requires-3 c κs = search needs
-
-bit-requires-4 : tie.Need-bit-requires-4
-bit-requires-4 c κs = search needs
-
-enum-told-4 : tie.Need-enum-told-4
-enum-told-4 c = search needs
-
-bit-requires-5 : tie.Need-bit-requires-5
-bit-requires-5 c κs = search needs
-
-enum-told-5 : tie.Need-enum-told-5
-enum-told-5 c = search needs
-
-bit-requires-6 : tie.Need-bit-requires-6
-bit-requires-6 c κs = search needs
-
-bit-requires-7 : tie.Need-bit-requires-7
-bit-requires-7 c κs = search needs
-
-enum-told-6 : tie.Need-enum-told-6
-enum-told-6 c = search needs
-
-bit-requires-8 : tie.Need-bit-requires-8
-bit-requires-8 c κs = search needs
-
-enum-told-7 : tie.Need-enum-told-7
-enum-told-7 c = search needs
-
-bit-requires-9 : tie.Need-bit-requires-9
-bit-requires-9 c κs = search needs
-
-enum-told-8 : tie.Need-enum-told-8
-enum-told-8 c = search needs
-
-bit-requires-10 : tie.Need-bit-requires-10
-bit-requires-10 c κs = search needs
-
-enum-told-9 : tie.Need-enum-told-9
-enum-told-9 c = search needs
-
-bit-requires-11 : tie.Need-bit-requires-11
-bit-requires-11 c κs = search needs
-
-enum-told-10 : tie.Need-enum-told-10
-enum-told-10 c = search needs
-
-bit-requires-12 : tie.Need-bit-requires-12
-bit-requires-12 c κs = search needs
-
-enum-told-11 : tie.Need-enum-told-11
-enum-told-11 c = search needs
-
-bit-requires-13 : tie.Need-bit-requires-13
-bit-requires-13 c κs = search needs
-
-bit-requires-14 : tie.Need-bit-requires-14
-bit-requires-14 c κs = search needs
-
-enum-told-12 : tie.Need-enum-told-12
-enum-told-12 c = search needs
-
-bit-requires-15 : tie.Need-bit-requires-15
-bit-requires-15 c κs = search needs
-
-bit-requires-16 : tie.Need-bit-requires-16
-bit-requires-16 c κs = search needs
-
-enum-told-13 : tie.Need-enum-told-13
-enum-told-13 c = search needs
-
-bit-requires-17 : tie.Need-bit-requires-17
-bit-requires-17 c κs = search needs
-
 returns : tie.Need-returns
 unfolding jumps
 returns c = rw (c .enum-told .given .1)
@@ -150,36 +60,36 @@ pub jumps-spec : {M : Type 1} → statement M
 jumps-spec =
     tie.close
     (tie.spec
-    enum-told
-    enum-told-2
-    bit-requires
-    bit-requires-2
-    enum-told-3
-    bit-requires-3
-    bit-requires-4
-    enum-told-4
-    bit-requires-5
-    enum-told-5
-    bit-requires-6
-    bit-requires-7
-    enum-told-6
-    bit-requires-8
-    enum-told-7
-    bit-requires-9
-    enum-told-8
-    bit-requires-10
-    enum-told-9
-    bit-requires-11
-    enum-told-10
-    bit-requires-12
-    enum-told-11
-    bit-requires-13
-    bit-requires-14
-    enum-told-12
-    bit-requires-15
-    bit-requires-16
-    enum-told-13
-    bit-requires-17
+    (λ c. search needs)
+    (λ c. search needs)
+    (λ c κs. search needs)
+    (λ c κs. search needs)
+    (λ c. search needs)
+    (λ c κs. search needs)
+    (λ c κs. search needs)
+    (λ c. search needs)
+    (λ c κs. search needs)
+    (λ c. search needs)
+    (λ c κs. search needs)
+    (λ c κs. search needs)
+    (λ c. search needs)
+    (λ c κs. search needs)
+    (λ c. search needs)
+    (λ c κs. search needs)
+    (λ c. search needs)
+    (λ c κs. search needs)
+    (λ c. search needs)
+    (λ c κs. search needs)
+    (λ c. search needs)
+    (λ c κs. search needs)
+    (λ c. search needs)
+    (λ c κs. search needs)
+    (λ c κs. search needs)
+    (λ c. search needs)
+    (λ c κs. search needs)
+    (λ c κs. search needs)
+    (λ c. search needs)
+    (λ c κs. search needs)
     returns
     returns-2
     returns-3

@@ -4,15 +4,6 @@ use borrow.Author.Needs.{needs}
 use Rattle.alu.proofs.status.parity.Statement.{statement}
 use Rattle.alu.proofs.status.parity.Tie as tie
 
-enum-told : tie.Need-enum-told
-enum-told c = search needs
-
-put-requires : tie.Need-put-requires
-put-requires c κs = search needs
-
-enum-told-2 : tie.Need-enum-told-2
-enum-told-2 c = search needs
-
 returns : tie.Need-returns
 unfolding parity is-odd
 returns c = rw (c .before .enum-told .given .1) (c .put .ensures)
@@ -22,4 +13,4 @@ unfolding parity
 returns-2 c = rw (c .enum-told2 .given .1)
 
 pub parity-spec : {M : Type 1} → statement M
-parity-spec = tie.close (tie.spec enum-told put-requires enum-told-2 returns returns-2)
+parity-spec = tie.close (tie.spec (λ c. search needs) (λ c κs. search needs) (λ c. search needs) returns returns-2)

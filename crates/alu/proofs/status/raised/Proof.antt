@@ -4,18 +4,6 @@ use borrow.Author.Needs.{needs}
 use Rattle.alu.proofs.status.raised.Statement.{statement}
 use Rattle.alu.proofs.status.raised.Tie as tie
 
-enum-told : tie.Need-enum-told
-enum-told c = search needs
-
-add-result : tie.Need-add-result
-add-result c = search needs
-
-enum-told-2 : tie.Need-enum-told-2
-enum-told-2 c = search needs
-
-add-result-2 : tie.Need-add-result-2
-add-result-2 c = search needs
-
 returns : tie.Need-returns
 unfolding raised
 returns c = rw (c .enum-told .given .1)
@@ -25,4 +13,4 @@ unfolding raised
 returns-2 c = rw (c .enum-told2 .given .1)
 
 pub raised-spec : {M : Type 1} → statement M
-raised-spec = tie.close (tie.spec enum-told add-result enum-told-2 add-result-2 returns returns-2)
+raised-spec = tie.close (tie.spec (λ c. search needs) (λ c. search needs) (λ c. search needs) (λ c. search needs) returns returns-2)

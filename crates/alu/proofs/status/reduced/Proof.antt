@@ -5,12 +5,6 @@ use borrow.Author.Needs.{needs}
 use Rattle.alu.proofs.status.reduced.Statement.{statement}
 use Rattle.alu.proofs.status.reduced.Tie as tie
 
-enum-told : tie.Need-enum-told
-enum-told c = search needs
-
-enum-told-2 : tie.Need-enum-told-2
-enum-told-2 c = search needs
-
 returns : tie.Need-returns
 returns c = rw (c .enum-told .given .1)
 
@@ -18,4 +12,4 @@ returns-2 : tie.Need-returns-2
 returns-2 c = rw (c .enum-told2 .given .1) (sym (mod-eq-of-lt (c .before .before .fits .v .fits)))
 
 pub reduced-spec : {M : Type 1} → statement M
-reduced-spec = tie.close (tie.spec enum-told enum-told-2 returns returns-2)
+reduced-spec = tie.close (tie.spec (λ c. search needs) (λ c. search needs) returns returns-2)

@@ -9,21 +9,6 @@ use borrow.Author.Needs.{needs}
 use Rattle.alu.proofs.sums.difference.Statement.{statement}
 use Rattle.alu.proofs.sums.difference.Tie as tie
 
-wrapping-sub-u16-requires : tie.Need-wrapping-sub-u16-requires
-wrapping-sub-u16-requires c κs = search needs
-
-reduced-requires : tie.Need-reduced-requires
-reduced-requires c κs = search needs
-
-judged-requires : tie.Need-judged-requires
-judged-requires c κs = search needs
-
-difference-overflows-requires : tie.Need-difference-overflows-requires
-difference-overflows-requires c κs = search needs
-
-carried-requires : tie.Need-carried-requires
-carried-requires c κs = search needs
-
 returns : tie.Need-returns
 unfolding difference
 returns c =
@@ -42,9 +27,9 @@ pub difference-spec : {M : Type 1} → statement M
 difference-spec =
     tie.close
     (tie.spec
-    wrapping-sub-u16-requires
-    reduced-requires
-    judged-requires
-    difference-overflows-requires
-    carried-requires
+    (λ c κs. search needs)
+    (λ c κs. search needs)
+    (λ c κs. search needs)
+    (λ c κs. search needs)
+    (λ c κs. search needs)
     returns)

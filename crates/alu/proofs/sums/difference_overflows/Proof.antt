@@ -6,15 +6,6 @@ use borrow.Author.Needs.{needs}
 use Rattle.alu.proofs.sums.difference_overflows.Statement.{statement}
 use Rattle.alu.proofs.sums.difference_overflows.Tie as tie
 
-modulus-requires : tie.Need-modulus-requires
-modulus-requires c κs = search needs
-
-raised-requires : tie.Need-raised-requires
-raised-requires c κs = search needs
-
-raised-requires-2 : tie.Need-raised-requires-2
-raised-requires-2 c κs = search needs
-
 add-result : tie.Need-add-result
 add-result c =
     let a = c .before .before .before .args in
@@ -32,4 +23,4 @@ returns c = rw (c .raised2 .ensures, c .before .raised .ensures, c .before .befo
 pub difference-overflows-spec : {M : Type 1} → statement M
 difference-overflows-spec =
     tie.close
-    (tie.spec modulus-requires raised-requires raised-requires-2 add-result add-result-2 returns)
+    (tie.spec (λ c κs. search needs) (λ c κs. search needs) (λ c κs. search needs) add-result add-result-2 returns)

@@ -4,12 +4,6 @@ use borrow.Author.Needs.{needs}
 use Rattle.alu.proofs.sums.magnitude.Statement.{statement}
 use Rattle.alu.proofs.sums.magnitude.Tie as tie
 
-bit-requires : tie.Need-bit-requires
-bit-requires c κs = search needs
-
-wrapping-sub-u16-requires : tie.Need-wrapping-sub-u16-requires
-wrapping-sub-u16-requires c κs = search needs
-
 returns : tie.Need-returns
 returns c = rw (← c .before .before .bit .ensures, c .before .if1 .taken) (omega arith)
 
@@ -17,4 +11,4 @@ returns-2 : tie.Need-returns-2
 returns-2 c = rw (← c .before .bit .ensures, c .if1 .left) (omega arith)
 
 pub magnitude-spec : {M : Type 1} → statement M
-magnitude-spec = tie.close (tie.spec bit-requires wrapping-sub-u16-requires returns returns-2)
+magnitude-spec = tie.close (tie.spec (λ c κs. search needs) (λ c κs. search needs) returns returns-2)

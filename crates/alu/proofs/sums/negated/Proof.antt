@@ -4,12 +4,9 @@ use borrow.Author.Needs.{needs}
 use Rattle.alu.proofs.sums.negated.Statement.{statement}
 use Rattle.alu.proofs.sums.negated.Tie as tie
 
-difference-requires : tie.Need-difference-requires
-difference-requires c κs = search needs
-
 returns : tie.Need-returns
 unfolding negated
 returns c = c .difference .ensures
 
 pub negated-spec : {M : Type 1} → statement M
-negated-spec = tie.close (tie.spec difference-requires returns)
+negated-spec = tie.close (tie.spec (λ c κs. search needs) returns)

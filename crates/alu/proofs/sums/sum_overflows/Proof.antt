@@ -6,15 +6,6 @@ use borrow.Author.Needs.{needs}
 use Rattle.alu.proofs.sums.sum_overflows.Statement.{statement}
 use Rattle.alu.proofs.sums.sum_overflows.Tie as tie
 
-modulus-requires : tie.Need-modulus-requires
-modulus-requires c κs = search needs
-
-raised-requires : tie.Need-raised-requires
-raised-requires c κs = search needs
-
-raised-requires-2 : tie.Need-raised-requires-2
-raised-requires-2 c κs = search needs
-
 add-total : tie.Need-add-total
 add-total c =
     let a = c .before .before .before .args in
@@ -30,4 +21,4 @@ returns c = rw (c .raised2 .ensures, c .before .raised .ensures, c .before .befo
 pub sum-overflows-spec : {M : Type 1} → statement M
 sum-overflows-spec =
     tie.close
-    (tie.spec modulus-requires raised-requires raised-requires-2 add-total add-result returns)
+    (tie.spec (λ c κs. search needs) (λ c κs. search needs) (λ c κs. search needs) add-total add-result returns)

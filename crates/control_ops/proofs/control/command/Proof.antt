@@ -6,39 +6,6 @@ use borrow.Author.Needs.{needs}
 use Rattle.control_ops.proofs.control.command.Statement.{statement}
 use Rattle.control_ops.proofs.control.command.Tie as tie
 
-enum-told : tie.Need-enum-told
-enum-told c = search needs
-
-put-requires : tie.Need-put-requires
-put-requires c κs = search needs
-
-set-flags-requires : tie.Need-set-flags-requires
-set-flags-requires c κs = search needs
-
-enum-told-2 : tie.Need-enum-told-2
-enum-told-2 c = search needs
-
-masked-requires : tie.Need-masked-requires
-masked-requires c κs = search needs
-
-set-status-requires : tie.Need-set-status-requires
-set-status-requires c κs = search needs
-
-enum-told-3 : tie.Need-enum-told-3
-enum-told-3 c = search needs
-
-return-from-requires : tie.Need-return-from-requires
-return-from-requires c κs = search needs
-
-enum-told-4 : tie.Need-enum-told-4
-enum-told-4 c = search needs
-
-enum-told-5 : tie.Need-enum-told-5
-enum-told-5 c = search needs
-
-enum-told-6 : tie.Need-enum-told-6
-enum-told-6 c = search needs
-
 returns : tie.Need-returns
 unfolding command
 returns c v = rw (c .before .before .enum-told .given .1, perform-bind, perform-registers, ← c .before .put .ensures) (c .set-flags .ensures v _)
@@ -67,17 +34,17 @@ pub command-spec : {M : Type 1} → statement M
 command-spec =
     tie.close
     (tie.spec
-    enum-told
-    put-requires
-    set-flags-requires
-    enum-told-2
-    masked-requires
-    set-status-requires
-    enum-told-3
-    return-from-requires
-    enum-told-4
-    enum-told-5
-    enum-told-6
+    (λ c. search needs)
+    (λ c κs. search needs)
+    (λ c κs. search needs)
+    (λ c. search needs)
+    (λ c κs. search needs)
+    (λ c κs. search needs)
+    (λ c. search needs)
+    (λ c κs. search needs)
+    (λ c. search needs)
+    (λ c. search needs)
+    (λ c. search needs)
     returns
     returns-2
     returns-3

@@ -6,18 +6,9 @@ use borrow.Author.Needs.{needs}
 use Rattle.control_ops.proofs.control.load_mask.Statement.{statement}
 use Rattle.control_ops.proofs.control.load_mask.Tie as tie
 
-fetch-requires : tie.Need-fetch-requires
-fetch-requires c κs = search needs
-
-masked-requires : tie.Need-masked-requires
-masked-requires c κs = search needs
-
-set-status-requires : tie.Need-set-status-requires
-set-status-requires c κs = search needs
-
 returns : tie.Need-returns
 unfolding load-mask
 returns c v = rw (perform-bind, c .before .before .before .fetch .ensures v) (c .set-status .ensures v _ _ (sym (c .before .masked .ensures)))
 
 pub load-mask-spec : {M : Type 1} → statement M
-load-mask-spec = tie.close (tie.spec fetch-requires masked-requires set-status-requires returns)
+load-mask-spec = tie.close (tie.spec (λ c κs. search needs) (λ c κs. search needs) (λ c κs. search needs) returns)

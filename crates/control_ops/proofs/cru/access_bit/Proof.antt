@@ -5,18 +5,9 @@ use borrow.Author.Needs.{needs}
 use Rattle.control_ops.proofs.cru.access_bit.Statement.{statement}
 use Rattle.control_ops.proofs.cru.access_bit.Tie as tie
 
-cru-base-requires : tie.Need-cru-base-requires
-cru-base-requires c κs = search needs
-
-displaced-requires : tie.Need-displaced-requires
-displaced-requires c κs = search needs
-
-reach-requires : tie.Need-reach-requires
-reach-requires c κs = search needs
-
 returns : tie.Need-returns
 unfolding access-bit
 returns c = rw (perform-bind, c .before .before .before .before .cru-base .ensures _, ← c .before .displaced .ensures) (c .reach .ensures _)
 
 pub access-bit-spec : {M : Type 1} → statement M
-access-bit-spec = tie.close (tie.spec cru-base-requires displaced-requires reach-requires returns)
+access-bit-spec = tie.close (tie.spec (λ c κs. search needs) (λ c κs. search needs) (λ c κs. search needs) returns)

@@ -5,15 +5,9 @@ use borrow.Author.Needs.{needs}
 use Rattle.control_ops.proofs.cru.cru_base.Statement.{statement}
 use Rattle.control_ops.proofs.cru.cru_base.Tie as tie
 
-register-requires : tie.Need-register-requires
-register-requires c κs = search needs
-
-bit-requires : tie.Need-bit-requires
-bit-requires c κs = search needs
-
 returns : tie.Need-returns
 unfolding cru-base
 returns c v = rw (perform-bind, c .before .before .register .ensures v, perform-done, c .bit .ensures)
 
 pub cru-base-spec : {M : Type 1} → statement M
-cru-base-spec = tie.close (tie.spec register-requires bit-requires returns)
+cru-base-spec = tie.close (tie.spec (λ c κs. search needs) (λ c κs. search needs) returns)

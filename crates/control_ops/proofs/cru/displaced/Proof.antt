@@ -6,15 +6,6 @@ use borrow.Author.Needs.{needs}
 use Rattle.control_ops.proofs.cru.displaced.Statement.{statement}
 use Rattle.control_ops.proofs.cru.displaced.Tie as tie
 
-plus-requires : tie.Need-plus-requires
-plus-requires c κs = search needs
-
-sub-plus : tie.Need-sub-plus
-sub-plus c = search needs
-
-plus-requires-2 : tie.Need-plus-requires-2
-plus-requires-2 c κs = search needs
-
 returns : tie.Need-returns
 unfolding beyond displacement
 returns c = simp (lt-ltb _ _ (c .if1 .taken)) (c .before .plus .ensures)
@@ -24,4 +15,4 @@ unfolding beyond displacement
 returns-2 c = simp (le-ltb _ _ (c .before .if1 .left)) (rw (c .plus2 .ensures, c .before .before .plus .ensures, mod-add-mod, add-assoc))
 
 pub displaced-spec : {M : Type 1} → statement M
-displaced-spec = tie.close (tie.spec plus-requires sub-plus plus-requires-2 returns returns-2)
+displaced-spec = tie.close (tie.spec (λ c κs. search needs) (λ c. search needs) (λ c κs. search needs) returns returns-2)

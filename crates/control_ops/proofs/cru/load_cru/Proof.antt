@@ -6,27 +6,6 @@ use borrow.Author.Needs.{needs}
 use Rattle.control_ops.proofs.cru.load_cru.Statement.{statement}
 use Rattle.control_ops.proofs.cru.load_cru.Tie as tie
 
-transfer-width-requires : tie.Need-transfer-width-requires
-transfer-width-requires c κs = search needs
-
-address-requires : tie.Need-address-requires
-address-requires c κs = search needs
-
-load-requires : tie.Need-load-requires
-load-requires c κs = search needs
-
-cru-base-requires : tie.Need-cru-base-requires
-cru-base-requires c κs = search needs
-
-judged-requires : tie.Need-judged-requires
-judged-requires c κs = search needs
-
-set-status-requires : tie.Need-set-status-requires
-set-status-requires c κs = search needs
-
-drive-bits-requires : tie.Need-drive-bits-requires
-drive-bits-requires c κs = search needs
-
 same-length : tie.Need-same-length
 same-length c = c .before .before .before .before .before .before .before .before .before .before .before .before .before .address .kept .0
 
@@ -53,12 +32,12 @@ pub load-cru-spec : {M : Type 1} → statement M
 load-cru-spec =
     tie.close
     (tie.spec
-    transfer-width-requires
-    address-requires
-    load-requires
-    cru-base-requires
-    judged-requires
-    set-status-requires
-    drive-bits-requires
+    (λ c κs. search needs)
+    (λ c κs. search needs)
+    (λ c κs. search needs)
+    (λ c κs. search needs)
+    (λ c κs. search needs)
+    (λ c κs. search needs)
+    (λ c κs. search needs)
     same-length
     returns)

@@ -6,30 +6,6 @@ use borrow.Author.Needs.{needs}
 use Rattle.control_ops.proofs.cru.reach.Statement.{statement}
 use Rattle.control_ops.proofs.cru.reach.Tie as tie
 
-enum-told : tie.Need-enum-told
-enum-told c = search needs
-
-drive-requires : tie.Need-drive-requires
-drive-requires c κs = search needs
-
-enum-told-2 : tie.Need-enum-told-2
-enum-told-2 c = search needs
-
-drive-requires-2 : tie.Need-drive-requires-2
-drive-requires-2 c κs = search needs
-
-enum-told-3 : tie.Need-enum-told-3
-enum-told-3 c = search needs
-
-sense-requires : tie.Need-sense-requires
-sense-requires c κs = search needs
-
-put-requires : tie.Need-put-requires
-put-requires c κs = search needs
-
-set-status-requires : tie.Need-set-status-requires
-set-status-requires c κs = search needs
-
 returns : tie.Need-returns
 unfolding reach
 returns c m = rw (c .before .enum-told .given .1) (c .drive .ensures _ m)
@@ -46,14 +22,14 @@ pub reach-spec : {M : Type 1} → statement M
 reach-spec =
     tie.close
     (tie.spec
-    enum-told
-    drive-requires
-    enum-told-2
-    drive-requires-2
-    enum-told-3
-    sense-requires
-    put-requires
-    set-status-requires
+    (λ c. search needs)
+    (λ c κs. search needs)
+    (λ c. search needs)
+    (λ c κs. search needs)
+    (λ c. search needs)
+    (λ c κs. search needs)
+    (λ c κs. search needs)
+    (λ c κs. search needs)
     returns
     returns-2
     returns-3)

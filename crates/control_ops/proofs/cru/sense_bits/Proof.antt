@@ -26,30 +26,12 @@ abbrev μ-loop : tie.MeasureT-loop
 loop-holds : tie.Need-loop-holds Inv-loop μ-loop
 loop-holds c = (search needs, search needs, λ m. sym (rw sub-zero (gathered-none _)))
 
-sense-requires : tie.Need-sense-requires Inv-loop μ-loop
-sense-requires c κs = search needs
-
-cast-value : tie.Need-cast-value Inv-loop μ-loop
-cast-value c = search needs
-
-shl-value : tie.Need-shl-value Inv-loop μ-loop
-shl-value c = search needs
-
 add-value : tie.Need-add-value Inv-loop μ-loop
 add-value c =
     let turn = c .before .before .before .before .loop in
     record {
       fits = below-word (turn .n + 1) _ (omega arith) (weighed-below _ _ (c .before .before .sense .result .value) (omega arith) (turn .inv .1));
     }
-
-plus-requires : tie.Need-plus-requires Inv-loop μ-loop
-plus-requires c κs = search needs
-
-add-n : tie.Need-add-n Inv-loop μ-loop
-add-n c = search needs
-
-loop-less : tie.Need-loop-less Inv-loop μ-loop
-loop-less c = search needs
 
 loop-again : tie.Need-loop-again Inv-loop μ-loop
 loop-again c =
@@ -75,12 +57,12 @@ sense-bits-spec =
     Inv-loop
     μ-loop
     loop-holds
-    sense-requires
-    cast-value
-    shl-value
+    (λ c κs. search needs)
+    (λ c. search needs)
+    (λ c. search needs)
     add-value
-    plus-requires
-    add-n
-    loop-less
+    (λ c κs. search needs)
+    (λ c. search needs)
+    (λ c. search needs)
     loop-again
     returns)

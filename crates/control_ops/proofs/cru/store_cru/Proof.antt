@@ -5,24 +5,6 @@ use borrow.Author.Needs.{needs}
 use Rattle.control_ops.proofs.cru.store_cru.Statement.{statement}
 use Rattle.control_ops.proofs.cru.store_cru.Tie as tie
 
-transfer-width-requires : tie.Need-transfer-width-requires
-transfer-width-requires c κs = search needs
-
-address-requires : tie.Need-address-requires
-address-requires c κs = search needs
-
-cru-base-requires : tie.Need-cru-base-requires
-cru-base-requires c κs = search needs
-
-sense-bits-requires : tie.Need-sense-bits-requires
-sense-bits-requires c κs = search needs
-
-conclude-judged-requires : tie.Need-conclude-judged-requires
-conclude-judged-requires c κs = search needs
-
-same-length : tie.Need-same-length
-same-length c = search needs
-
 returns : tie.Need-returns
 unfolding store-cru
 returns c =
@@ -44,10 +26,10 @@ pub store-cru-spec : {M : Type 1} → statement M
 store-cru-spec =
     tie.close
     (tie.spec
-    transfer-width-requires
-    address-requires
-    cru-base-requires
-    sense-bits-requires
-    conclude-judged-requires
-    same-length
+    (λ c κs. search needs)
+    (λ c κs. search needs)
+    (λ c κs. search needs)
+    (λ c κs. search needs)
+    (λ c κs. search needs)
+    (λ c. search needs)
     returns)

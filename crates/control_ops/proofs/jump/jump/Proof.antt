@@ -5,15 +5,6 @@ use borrow.Author.Needs.{needs}
 use Rattle.control_ops.proofs.jump.jump.Statement.{statement}
 use Rattle.control_ops.proofs.jump.jump.Tie as tie
 
-jumps-requires : tie.Need-jumps-requires
-jumps-requires c κs = search needs
-
-target-requires : tie.Need-target-requires
-target-requires c κs = search needs
-
-set-pc-requires : tie.Need-set-pc-requires
-set-pc-requires c κs = search needs
-
 returns : tie.Need-returns
 unfolding jump
 returns c v m = rw (perform-bind, perform-registers, ← c .before .before .before .jumps .ensures, c .before .before .if1 .taken, ← c .before .target .ensures) (c .set-pc .ensures v m)
@@ -23,4 +14,4 @@ unfolding jump
 returns-2 c v m = rw (perform-bind, perform-registers, ← c .before .jumps .ensures, c .if1 .left, perform-done)
 
 pub jump-spec : {M : Type 1} → statement M
-jump-spec = tie.close (tie.spec jumps-requires target-requires set-pc-requires returns returns-2)
+jump-spec = tie.close (tie.spec (λ c κs. search needs) (λ c κs. search needs) (λ c κs. search needs) returns returns-2)

@@ -6,15 +6,6 @@ use borrow.Author.Needs.{needs}
 use Rattle.control_ops.proofs.jump.target.Statement.{statement}
 use Rattle.control_ops.proofs.jump.target.Tie as tie
 
-wrapping-add-u16-requires : tie.Need-wrapping-add-u16-requires
-wrapping-add-u16-requires c κs = search needs
-
-wrapping-add-u16-requires-2 : tie.Need-wrapping-add-u16-requires-2
-wrapping-add-u16-requires-2 c κs = search needs
-
-wrapping-sub-u16-requires : tie.Need-wrapping-sub-u16-requires
-wrapping-sub-u16-requires c κs = search needs
-
 returns : tie.Need-returns
 unfolding jump-bytes
 returns c = simp (lt-ltb _ _ (c .if1 .taken)) (rw (c .before .wrapping-add-u162 .ensures, c .before .before .wrapping-add-u16 .ensures) (omega arith))
@@ -27,8 +18,8 @@ pub target-spec : {M : Type 1} → statement M
 target-spec =
     tie.close
     (tie.spec
-    wrapping-add-u16-requires
-    wrapping-add-u16-requires-2
-    wrapping-sub-u16-requires
+    (λ c κs. search needs)
+    (λ c κs. search needs)
+    (λ c κs. search needs)
     returns
     returns-2)

@@ -5,24 +5,6 @@ use borrow.Author.Needs.{needs}
 use Rattle.control_ops.proofs.switch.return_from.Statement.{statement}
 use Rattle.control_ops.proofs.switch.return_from.Tie as tie
 
-register-requires : tie.Need-register-requires
-register-requires c κs = search needs
-
-register-requires-2 : tie.Need-register-requires-2
-register-requires-2 c κs = search needs
-
-register-requires-3 : tie.Need-register-requires-3
-register-requires-3 c κs = search needs
-
-set-wp-requires : tie.Need-set-wp-requires
-set-wp-requires c κs = search needs
-
-set-pc-requires : tie.Need-set-pc-requires
-set-pc-requires c κs = search needs
-
-set-st-requires : tie.Need-set-st-requires
-set-st-requires c κs = search needs
-
 returns : tie.Need-returns
 unfolding return
 returns c v =
@@ -47,10 +29,10 @@ pub return-from-spec : {M : Type 1} → statement M
 return-from-spec =
     tie.close
     (tie.spec
-    register-requires
-    register-requires-2
-    register-requires-3
-    set-wp-requires
-    set-pc-requires
-    set-st-requires
+    (λ c κs. search needs)
+    (λ c κs. search needs)
+    (λ c κs. search needs)
+    (λ c κs. search needs)
+    (λ c κs. search needs)
+    (λ c κs. search needs)
     returns)

@@ -6,41 +6,11 @@ use borrow.Author.Needs.{needs}
 use Rattle.control_ops.proofs.switch.switch.Statement.{statement}
 use Rattle.control_ops.proofs.switch.switch.Tie as tie
 
-wrapping-add-u16-requires : tie.Need-wrapping-add-u16-requires
-wrapping-add-u16-requires c κs = search needs
-
-load-requires : tie.Need-load-requires
-load-requires c κs = search needs
-
-load-requires-2 : tie.Need-load-requires-2
-load-requires-2 c κs = search needs
-
-set-wp-requires : tie.Need-set-wp-requires
-set-wp-requires c κs = search needs
-
-set-register-requires : tie.Need-set-register-requires
-set-register-requires c κs = search needs
-
-set-register-requires-2 : tie.Need-set-register-requires-2
-set-register-requires-2 c κs = search needs
-
 set-register-requires-3 : tie.Need-set-register-requires-3
 set-register-requires-3 c κs =
     let r14 = c .before .before .before in
     let r13 = r14 .before .before .before .before in
     r14 .set-register2 .kept .0 ∙ r13 .set-register .kept .0 ∙ r13 .before .before .before .before .before .before .before .before .before .before .before .pre
-
-set-pc-requires : tie.Need-set-pc-requires
-set-pc-requires c κs = search needs
-
-put-requires : tie.Need-put-requires
-put-requires c κs = search needs
-
-set-flags-requires : tie.Need-set-flags-requires
-set-flags-requires c κs = search needs
-
-same-length : tie.Need-same-length
-same-length c = search needs
 
 returns : tie.Need-returns
 unfolding switch
@@ -77,15 +47,15 @@ pub switch-spec : {M : Type 1} → statement M
 switch-spec =
     tie.close
     (tie.spec
-    wrapping-add-u16-requires
-    load-requires
-    load-requires-2
-    set-wp-requires
-    set-register-requires
-    set-register-requires-2
+    (λ c κs. search needs)
+    (λ c κs. search needs)
+    (λ c κs. search needs)
+    (λ c κs. search needs)
+    (λ c κs. search needs)
+    (λ c κs. search needs)
     set-register-requires-3
-    set-pc-requires
-    put-requires
-    set-flags-requires
-    same-length
+    (λ c κs. search needs)
+    (λ c κs. search needs)
+    (λ c κs. search needs)
+    (λ c. search needs)
     returns)

@@ -9,30 +9,6 @@ use borrow.Author.Needs.{needs}
 use Rattle.control_ops.proofs.switch.switch_by_number.Statement.{statement}
 use Rattle.control_ops.proofs.switch.switch_by_number.Tie as tie
 
-address-requires : tie.Need-address-requires
-address-requires c κs = search needs
-
-mul-wrapping-add-u16 : tie.Need-mul-wrapping-add-u16
-mul-wrapping-add-u16 c = search needs
-
-wrapping-add-u16-requires : tie.Need-wrapping-add-u16-requires
-wrapping-add-u16-requires c κs = search needs
-
-switch-requires : tie.Need-switch-requires
-switch-requires c κs = search needs
-
-put-requires : tie.Need-put-requires
-put-requires c κs = search needs
-
-set-status-requires : tie.Need-set-status-requires
-set-status-requires c κs = search needs
-
-set-register-requires : tie.Need-set-register-requires
-set-register-requires c κs = search needs
-
-same-length : tie.Need-same-length
-same-length c = search needs
-
 returns : tie.Need-returns
 unfolding switch-by-number
 returns c v =
@@ -58,12 +34,12 @@ pub switch-by-number-spec : {M : Type 1} → statement M
 switch-by-number-spec =
     tie.close
     (tie.spec
-    address-requires
-    mul-wrapping-add-u16
-    wrapping-add-u16-requires
-    switch-requires
-    put-requires
-    set-status-requires
-    set-register-requires
-    same-length
+    (λ c κs. search needs)
+    (λ c. search needs)
+    (λ c κs. search needs)
+    (λ c κs. search needs)
+    (λ c κs. search needs)
+    (λ c κs. search needs)
+    (λ c κs. search needs)
+    (λ c. search needs)
     returns)

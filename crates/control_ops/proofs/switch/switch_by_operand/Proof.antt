@@ -5,18 +5,9 @@ use borrow.Author.Needs.{needs}
 use Rattle.control_ops.proofs.switch.switch_by_operand.Statement.{statement}
 use Rattle.control_ops.proofs.switch.switch_by_operand.Tie as tie
 
-address-requires : tie.Need-address-requires
-address-requires c κs = search needs
-
-switch-requires : tie.Need-switch-requires
-switch-requires c κs = search needs
-
-same-length : tie.Need-same-length
-same-length c = search needs
-
 returns : tie.Need-returns
 unfolding switch-by-operand
 returns c v = rw (perform-bind, c .before .before .before .before .before .before .before .address .ensures v) (c .before .before .switch .ensures v)
 
 pub switch-by-operand-spec : {M : Type 1} → statement M
-switch-by-operand-spec = tie.close (tie.spec address-requires switch-requires same-length returns)
+switch-by-operand-spec = tie.close (tie.spec (λ c κs. search needs) (λ c κs. search needs) (λ c. search needs) returns)

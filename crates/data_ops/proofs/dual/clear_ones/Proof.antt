@@ -5,18 +5,6 @@ use borrow.Author.Needs.{needs}
 use Rattle.data_ops.proofs.dual.clear_ones.Statement.{statement}
 use Rattle.data_ops.proofs.dual.clear_ones.Tie as tie
 
-load-requires : tie.Need-load-requires
-load-requires c κs = search needs
-
-without-requires : tie.Need-without-requires
-without-requires c κs = search needs
-
-conclude-judged-requires : tie.Need-conclude-judged-requires
-conclude-judged-requires c κs = search needs
-
-same-length : tie.Need-same-length
-same-length c = search needs
-
 returns : tie.Need-returns
 unfolding combine
 returns c v = rw (perform-bind, c .before .before .before .before .before .before .load .ensures v, ← c .before .before .before .before .without .ensures) (c .before .before .conclude-judged .ensures v)
@@ -24,4 +12,4 @@ returns c v = rw (perform-bind, c .before .before .before .before .before .befor
 pub clear-ones-spec : {M : Type 1} → statement M
 clear-ones-spec =
     tie.close
-    (tie.spec load-requires without-requires conclude-judged-requires same-length returns)
+    (tie.spec (λ c κs. search needs) (λ c κs. search needs) (λ c κs. search needs) (λ c. search needs) returns)

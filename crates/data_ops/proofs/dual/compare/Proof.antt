@@ -5,18 +5,6 @@ use borrow.Author.Needs.{needs}
 use Rattle.data_ops.proofs.dual.compare.Statement.{statement}
 use Rattle.data_ops.proofs.dual.compare.Tie as tie
 
-load-requires : tie.Need-load-requires
-load-requires c κs = search needs
-
-compared-requires : tie.Need-compared-requires
-compared-requires c κs = search needs
-
-parity-requires : tie.Need-parity-requires
-parity-requires c κs = search needs
-
-set-status-requires : tie.Need-set-status-requires
-set-status-requires c κs = search needs
-
 returns : tie.Need-returns
 unfolding combine
 returns c v = rw (perform-bind, c .before .before .before .before .load .ensures v) (c .set-status .ensures v _ _ (rw (← c .before .before .compared .ensures, ← c .before .parity .ensures)))
@@ -24,4 +12,4 @@ returns c v = rw (perform-bind, c .before .before .before .before .load .ensures
 pub compare-spec : {M : Type 1} → statement M
 compare-spec =
     tie.close
-    (tie.spec load-requires compared-requires parity-requires set-status-requires returns)
+    (tie.spec (λ c κs. search needs) (λ c κs. search needs) (λ c κs. search needs) (λ c κs. search needs) returns)

@@ -5,21 +5,6 @@ use borrow.Author.Needs.{needs}
 use Rattle.data_ops.proofs.immediate.immediate.Statement.{statement}
 use Rattle.data_ops.proofs.immediate.immediate.Tie as tie
 
-old-requires : tie.Need-old-requires
-old-requires c κs = search needs
-
-fetch-requires : tie.Need-fetch-requires
-fetch-requires c κs = search needs
-
-register-at-requires : tie.Need-register-at-requires
-register-at-requires c κs = search needs
-
-merge-requires : tie.Need-merge-requires
-merge-requires c κs = search needs
-
-same-length : tie.Need-same-length
-same-length c = search needs
-
 returns : tie.Need-returns
 unfolding immediate
 returns c v = rw (perform-bind, c .before .before .before .before .before .before .before .before .before .old .ensures v, perform-bind, c .before .before .before .before .before .before .fetch .ensures v, perform-bind, perform-registers, ← c .before .before .before .register-at .ensures) (c .before .before .merge .ensures v)
@@ -27,4 +12,4 @@ returns c v = rw (perform-bind, c .before .before .before .before .before .befor
 pub immediate-spec : {M : Type 1} → statement M
 immediate-spec =
     tie.close
-    (tie.spec old-requires fetch-requires register-at-requires merge-requires same-length returns)
+    (tie.spec (λ c κs. search needs) (λ c κs. search needs) (λ c κs. search needs) (λ c κs. search needs) (λ c. search needs) returns)

@@ -5,33 +5,6 @@ use borrow.Author.Needs.{needs}
 use Rattle.data_ops.proofs.immediate.old.Statement.{statement}
 use Rattle.data_ops.proofs.immediate.old.Tie as tie
 
-enum-told : tie.Need-enum-told
-enum-told c = search needs
-
-enum-told-2 : tie.Need-enum-told-2
-enum-told-2 c = search needs
-
-register-requires : tie.Need-register-requires
-register-requires c κs = search needs
-
-enum-told-3 : tie.Need-enum-told-3
-enum-told-3 c = search needs
-
-register-requires-2 : tie.Need-register-requires-2
-register-requires-2 c κs = search needs
-
-enum-told-4 : tie.Need-enum-told-4
-enum-told-4 c = search needs
-
-register-requires-3 : tie.Need-register-requires-3
-register-requires-3 c κs = search needs
-
-enum-told-5 : tie.Need-enum-told-5
-enum-told-5 c = search needs
-
-register-requires-4 : tie.Need-register-requires-4
-register-requires-4 c κs = search needs
-
 returns : tie.Need-returns
 unfolding old
 returns c v = rw (c .enum-told .given .1) (perform-done v _ _)
@@ -56,15 +29,15 @@ pub old-spec : {M : Type 1} → statement M
 old-spec =
     tie.close
     (tie.spec
-    enum-told
-    enum-told-2
-    register-requires
-    enum-told-3
-    register-requires-2
-    enum-told-4
-    register-requires-3
-    enum-told-5
-    register-requires-4
+    (λ c. search needs)
+    (λ c. search needs)
+    (λ c κs. search needs)
+    (λ c. search needs)
+    (λ c κs. search needs)
+    (λ c. search needs)
+    (λ c κs. search needs)
+    (λ c. search needs)
+    (λ c κs. search needs)
     returns
     returns-2
     returns-3

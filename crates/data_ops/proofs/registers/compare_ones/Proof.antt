@@ -5,19 +5,10 @@ use borrow.Author.Needs.{needs}
 use Rattle.data_ops.proofs.registers.compare_ones.Statement.{statement}
 use Rattle.data_ops.proofs.registers.compare_ones.Tie as tie
 
-register-requires : tie.Need-register-requires
-register-requires c κs = search needs
-
-without-requires : tie.Need-without-requires
-without-requires c κs = search needs
-
-set-equal-requires : tie.Need-set-equal-requires
-set-equal-requires c κs = search needs
-
 returns : tie.Need-returns
 unfolding apply
 returns c v = rw (perform-bind, c .before .before .before .register .ensures v, ← c .before .without .ensures) (c .set-equal .ensures v _)
 
 pub compare-ones-spec : {M : Type 1} → statement M
 compare-ones-spec =
-    tie.close (tie.spec register-requires without-requires set-equal-requires returns)
+    tie.close (tie.spec (λ c κs. search needs) (λ c κs. search needs) (λ c κs. search needs) returns)

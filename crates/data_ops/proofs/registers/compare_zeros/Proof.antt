@@ -5,19 +5,10 @@ use borrow.Author.Needs.{needs}
 use Rattle.data_ops.proofs.registers.compare_zeros.Statement.{statement}
 use Rattle.data_ops.proofs.registers.compare_zeros.Tie as tie
 
-register-requires : tie.Need-register-requires
-register-requires c κs = search needs
-
-both-requires : tie.Need-both-requires
-both-requires c κs = search needs
-
-set-equal-requires : tie.Need-set-equal-requires
-set-equal-requires c κs = search needs
-
 returns : tie.Need-returns
 unfolding apply
 returns c v = rw (perform-bind, c .before .before .before .register .ensures v, ← c .before .both .ensures) (c .set-equal .ensures v _)
 
 pub compare-zeros-spec : {M : Type 1} → statement M
 compare-zeros-spec =
-    tie.close (tie.spec register-requires both-requires set-equal-requires returns)
+    tie.close (tie.spec (λ c κs. search needs) (λ c κs. search needs) (λ c κs. search needs) returns)

@@ -9,42 +9,9 @@ use borrow.Author.Needs.{needs}
 use Rattle.data_ops.proofs.registers.divide.Statement.{statement}
 use Rattle.data_ops.proofs.registers.divide.Tie as tie
 
-register-requires : tie.Need-register-requires
-register-requires c κs = search needs
-
-put-requires : tie.Need-put-requires
-put-requires c κs = search needs
-
-set-status-requires : tie.Need-set-status-requires
-set-status-requires c κs = search needs
-
-same-length : tie.Need-same-length
-same-length c = search needs
-
 returns : tie.Need-returns
 unfolding divide
 returns c v = rw (perform-bind, c .before .before .before .before .register .ensures v, le-leb _ _ (c .before .before .if1 .taken)) (c .set-status .ensures v _ _ (sym (c .before .put .ensures)))
-
-wrapping-add-u16-requires : tie.Need-wrapping-add-u16-requires
-wrapping-add-u16-requires c κs = search needs
-
-register-requires-2 : tie.Need-register-requires-2
-register-requires-2 c κs = search needs
-
-put-requires-2 : tie.Need-put-requires-2
-put-requires-2 c κs = search needs
-
-set-status-requires-2 : tie.Need-set-status-requires-2
-set-status-requires-2 c κs = search needs
-
-divided-requires : tie.Need-divided-requires
-divided-requires c κs = search needs
-
-set-pair-requires : tie.Need-set-pair-requires
-set-pair-requires c κs = search needs
-
-same-length-2 : tie.Need-same-length-2
-same-length-2 c = search needs
 
 returns-2 : tie.Need-returns-2
 unfolding divide
@@ -54,16 +21,16 @@ pub divide-spec : {M : Type 1} → statement M
 divide-spec =
     tie.close
     (tie.spec
-    register-requires
-    put-requires
-    set-status-requires
-    same-length
+    (λ c κs. search needs)
+    (λ c κs. search needs)
+    (λ c κs. search needs)
+    (λ c. search needs)
     returns
-    wrapping-add-u16-requires
-    register-requires-2
-    put-requires-2
-    set-status-requires-2
-    divided-requires
-    set-pair-requires
-    same-length-2
+    (λ c κs. search needs)
+    (λ c κs. search needs)
+    (λ c κs. search needs)
+    (λ c κs. search needs)
+    (λ c κs. search needs)
+    (λ c κs. search needs)
+    (λ c. search needs)
     returns-2)

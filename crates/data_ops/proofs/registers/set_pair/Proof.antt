@@ -6,18 +6,6 @@ use borrow.Author.Needs.{needs}
 use Rattle.data_ops.proofs.registers.set_pair.Statement.{statement}
 use Rattle.data_ops.proofs.registers.set_pair.Tie as tie
 
-set-register-requires : tie.Need-set-register-requires
-set-register-requires c κs = search needs
-
-wrapping-add-u16-requires : tie.Need-wrapping-add-u16-requires
-wrapping-add-u16-requires c κs = search needs
-
-set-register-requires-2 : tie.Need-set-register-requires-2
-set-register-requires-2 c κs = search needs
-
-same-length : tie.Need-same-length
-same-length c = search needs
-
 returns : tie.Need-returns
 unfolding set-pair
 returns c v = rw (perform-bind, c .before .before .before .before .before .before .before .set-register .ensures v, ← set-register-wraps, ← c .before .before .before .wrapping-add-u16 .ensures) (c .before .before .set-register2 .ensures v)
@@ -26,8 +14,8 @@ pub set-pair-spec : {M : Type 1} → statement M
 set-pair-spec =
     tie.close
     (tie.spec
-    set-register-requires
-    wrapping-add-u16-requires
-    set-register-requires-2
-    same-length
+    (λ c κs. search needs)
+    (λ c κs. search needs)
+    (λ c κs. search needs)
+    (λ c. search needs)
     returns)

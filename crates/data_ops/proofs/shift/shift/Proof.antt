@@ -6,24 +6,6 @@ use borrow.Author.Needs.{needs}
 use Rattle.data_ops.proofs.shift.shift.Statement.{statement}
 use Rattle.data_ops.proofs.shift.shift.Tie as tie
 
-register-requires : tie.Need-register-requires
-register-requires c κs = search needs
-
-shift-count-requires : tie.Need-shift-count-requires
-shift-count-requires c κs = search needs
-
-shifted-requires : tie.Need-shifted-requires
-shifted-requires c κs = search needs
-
-register-at-requires : tie.Need-register-at-requires
-register-at-requires c κs = search needs
-
-conclude-requires : tie.Need-conclude-requires
-conclude-requires c κs = search needs
-
-same-length : tie.Need-same-length
-same-length c = search needs
-
 returns : tie.Need-returns
 unfolding shift
 returns c v = rw (perform-bind, c .before .before .before .before .before .before .before .before .before .before .register .ensures v, perform-bind, c .before .before .before .before .before .before .before .shift-count .ensures v, perform-bind, perform-registers, ← c .before .before .before .register-at .ensures) (c .before .before .conclude .ensures v _ (sym (c .before .before .before .before .before .shifted .ensures)))
@@ -32,10 +14,10 @@ pub shift-spec : {M : Type 1} → statement M
 shift-spec =
     tie.close
     (tie.spec
-    register-requires
-    shift-count-requires
-    shifted-requires
-    register-at-requires
-    conclude-requires
-    same-length
+    (λ c κs. search needs)
+    (λ c κs. search needs)
+    (λ c κs. search needs)
+    (λ c κs. search needs)
+    (λ c κs. search needs)
+    (λ c. search needs)
     returns)

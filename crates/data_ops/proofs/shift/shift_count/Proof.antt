@@ -6,9 +6,6 @@ use borrow.Author.Needs.{needs}
 use Rattle.data_ops.proofs.shift.shift_count.Statement.{statement}
 use Rattle.data_ops.proofs.shift.shift_count.Tie as tie
 
-register-requires : tie.Need-register-requires
-register-requires c κs = search needs
-
 returns : tie.Need-returns
 unfolding shift-count
 returns c v = simp (eq-eqb _ _ (c .before .if1 .taken)) (c .register .ensures v)
@@ -18,4 +15,4 @@ unfolding shift-count
 returns-2 c v = simp (ne-eqb _ _ (c .if1 .left)) (perform-done v _ _)
 
 pub shift-count-spec : {M : Type 1} → statement M
-shift-count-spec = tie.close (tie.spec register-requires returns returns-2)
+shift-count-spec = tie.close (tie.spec (λ c κs. search needs) returns returns-2)

@@ -5,18 +5,9 @@ use borrow.Author.Needs.{needs}
 use Rattle.data_ops.proofs.single.link.Statement.{statement}
 use Rattle.data_ops.proofs.single.link.Tie as tie
 
-set-pc-requires : tie.Need-set-pc-requires
-set-pc-requires c κs = search needs
-
-set-register-requires : tie.Need-set-register-requires
-set-register-requires c κs = search needs
-
-same-length : tie.Need-same-length
-same-length c = search needs
-
 returns : tie.Need-returns
 unfolding modify
 returns c v = rw (perform-bind, perform-registers, perform-bind, c .before .before .before .before .set-pc .ensures v _) (c .before .before .set-register .ensures v)
 
 pub link-spec : {M : Type 1} → statement M
-link-spec = tie.close (tie.spec set-pc-requires set-register-requires same-length returns)
+link-spec = tie.close (tie.spec (λ c κs. search needs) (λ c κs. search needs) (λ c. search needs) returns)

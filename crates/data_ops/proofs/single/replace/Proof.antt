@@ -9,18 +9,6 @@ use borrow.Author.Needs.{needs}
 use Rattle.data_ops.proofs.single.replace.Statement.{statement}
 use Rattle.data_ops.proofs.single.replace.Tie as tie
 
-bit-requires : tie.Need-bit-requires
-bit-requires c κs = search needs
-
-wrapping-sub-u16-requires : tie.Need-wrapping-sub-u16-requires
-wrapping-sub-u16-requires c κs = search needs
-
-store-requires : tie.Need-store-requires
-store-requires c κs = search needs
-
-same-length : tie.Need-same-length
-same-length c = search needs
-
 returns : tie.Need-returns
 unfolding replace absolute
 returns c v = let e : c .before .before .before .wrapping-sub-u16 .result ≡ (65536 - c .before .before .before .before .before .before .before .before .args .x) % 65536 = omega arith in rw (← c .before .before .before .before .before .before .bit .ensures, c .before .before .before .before .before .if1 .taken, ← e) (c .before .before .store .ensures v)
@@ -32,4 +20,4 @@ returns-2 c v = rw (← c .before .bit .ensures, c .if1 .left) (perform-done v _
 pub replace-spec : {M : Type 1} → statement M
 replace-spec =
     tie.close
-    (tie.spec bit-requires wrapping-sub-u16-requires store-requires same-length returns returns-2)
+    (tie.spec (λ c κs. search needs) (λ c κs. search needs) (λ c κs. search needs) (λ c. search needs) returns returns-2)

@@ -8,21 +8,6 @@ use Rattle.image.proofs.Written.{unchecked-body}
 use Rattle.image.proofs.blocks.block.Statement.{statement}
 use Rattle.image.proofs.blocks.block.Tie as tie
 
-header-requires : tie.Need-header-requires
-header-requires c κs = search needs
-
-checked-requires : tie.Need-checked-requires
-checked-requires c κs = search needs
-
-sub-page : tie.Need-sub-page
-sub-page c = search needs
-
-page-requires : tie.Need-page-requires
-page-requires c κs = search needs
-
-checked-requires-2 : tie.Need-checked-requires-2
-checked-requires-2 c κs = search needs
-
 returns : tie.Need-returns
 unfolding block
 returns c =
@@ -40,10 +25,10 @@ pub block-spec : {M : Type 1} → statement M
 block-spec =
     tie.close
     (tie.spec
-    header-requires
-    checked-requires
-    sub-page
-    page-requires
-    checked-requires-2
+    (λ c κs. search needs)
+    (λ c κs. search needs)
+    (λ c. search needs)
+    (λ c κs. search needs)
+    (λ c κs. search needs)
     returns
     returns-2)

@@ -12,39 +12,6 @@ use Rattle.image.proofs.Parts.{block-word}
 use Rattle.image.proofs.blocks.block_fault.Statement.{statement}
 use Rattle.image.proofs.blocks.block_fault.Tie as tie
 
-mul-from : tie.Need-mul-from
-mul-from c = search needs
-
-add-low : tie.Need-add-low
-add-low c = search needs
-
-add-to : tie.Need-add-to
-add-to c = search needs
-
-sub-words-sum : tie.Need-sub-words-sum
-sub-words-sum c = search needs
-
-part-words-sum-start : tie.Need-part-words-sum-start
-part-words-sum-start c = search needs
-
-part-words-sum-end : tie.Need-part-words-sum-end
-part-words-sum-end c = search needs
-
-words-sum-requires : tie.Need-words-sum-requires
-words-sum-requires c κs = search needs
-
-shared-slice-read-word : tie.Need-shared-slice-read-word
-shared-slice-read-word c = search needs
-
-shared-slice-read-word-2 : tie.Need-shared-slice-read-word-2
-shared-slice-read-word-2 c = search needs
-
-word-requires : tie.Need-word-requires
-word-requires c κs = search needs
-
-cast-number : tie.Need-cast-number
-cast-number c = search needs
-
 -- the sum of a part of 512 bytes is the block's
 whole : (img : List ℕ) (i n r : ℕ) → r ≡ words-sum (take n (drop (512 * i) img)) % 65536 → n ≡ 512 → words-sum (block-of img i) % 65536 ≡ r
 unfolding block-of
@@ -81,17 +48,17 @@ pub block-fault-spec : {M : Type 1} → statement M
 block-fault-spec =
     tie.close
     (tie.spec
-    mul-from
-    add-low
-    add-to
-    sub-words-sum
-    part-words-sum-start
-    part-words-sum-end
-    words-sum-requires
-    shared-slice-read-word
-    shared-slice-read-word-2
-    word-requires
-    cast-number
+    (λ c. search needs)
+    (λ c. search needs)
+    (λ c. search needs)
+    (λ c. search needs)
+    (λ c. search needs)
+    (λ c. search needs)
+    (λ c κs. search needs)
+    (λ c. search needs)
+    (λ c. search needs)
+    (λ c κs. search needs)
+    (λ c. search needs)
     returns
     returns-2
     returns-3)

@@ -9,20 +9,8 @@ use Rattle.image.proofs.Parts.{put-last}
 use Rattle.image.proofs.blocks.checked.Statement.{statement}
 use Rattle.image.proofs.blocks.checked.Tie as tie
 
-array-share-prefix-made : tie.Need-array-share-prefix-made
-array-share-prefix-made c = search needs
-
 slice-aggregate-words-sum : tie.Need-slice-aggregate-words-sum
 slice-aggregate-words-sum c = sym (length-take-le _ (c .before .args .block) (omega arith))
-
-words-sum-requires : tie.Need-words-sum-requires
-words-sum-requires c κs = search needs
-
-sub-put-word : tie.Need-sub-put-word
-sub-put-word c = search needs
-
-put-word-requires : tie.Need-put-word-requires
-put-word-requires c κs = search needs
 
 returns : tie.Need-returns
 unfolding checked
@@ -34,9 +22,9 @@ pub checked-spec : {M : Type 1} → statement M
 checked-spec =
     tie.close
     (tie.spec
-    array-share-prefix-made
+    (λ c. search needs)
     slice-aggregate-words-sum
-    words-sum-requires
-    sub-put-word
-    put-word-requires
+    (λ c κs. search needs)
+    (λ c. search needs)
+    (λ c κs. search needs)
     returns)

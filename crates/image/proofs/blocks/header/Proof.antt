@@ -16,48 +16,6 @@ filled : (s : State) (m : List ℕ) →
 unfolding put-word unchecked content padded words-bytes fields
 filled s m = refl
 
-put-word-requires : tie.Need-put-word-requires
-put-word-requires c κs = search needs
-
-put-word-requires-2 : tie.Need-put-word-requires-2
-put-word-requires-2 c κs = search needs
-
-put-word-requires-3 : tie.Need-put-word-requires-3
-put-word-requires-3 c κs = search needs
-
-put-word-requires-4 : tie.Need-put-word-requires-4
-put-word-requires-4 c κs = search needs
-
-put-word-requires-5 : tie.Need-put-word-requires-5
-put-word-requires-5 c κs = search needs
-
-put-word-requires-6 : tie.Need-put-word-requires-6
-put-word-requires-6 c κs = search needs
-
-put-word-requires-7 : tie.Need-put-word-requires-7
-put-word-requires-7 c κs = search needs
-
-put-word-requires-8 : tie.Need-put-word-requires-8
-put-word-requires-8 c κs = search needs
-
-put-word-requires-9 : tie.Need-put-word-requires-9
-put-word-requires-9 c κs = search needs
-
-put-word-requires-10 : tie.Need-put-word-requires-10
-put-word-requires-10 c κs = search needs
-
-put-word-requires-11 : tie.Need-put-word-requires-11
-put-word-requires-11 c κs = search needs
-
-put-word-requires-12 : tie.Need-put-word-requires-12
-put-word-requires-12 c κs = search needs
-
-put-word-requires-13 : tie.Need-put-word-requires-13
-put-word-requires-13 c κs = search needs
-
-put-word-requires-14 : tie.Need-put-word-requires-14
-put-word-requires-14 c κs = search needs
-
 returns : tie.Need-returns
 returns c m =
     let c13 = c .before .before in
@@ -94,18 +52,18 @@ pub header-spec : {M : Type 1} → statement M
 header-spec =
     tie.close
     (tie.spec
-    put-word-requires
-    put-word-requires-2
-    put-word-requires-3
-    put-word-requires-4
-    put-word-requires-5
-    put-word-requires-6
-    put-word-requires-7
-    put-word-requires-8
-    put-word-requires-9
-    put-word-requires-10
-    put-word-requires-11
-    put-word-requires-12
-    put-word-requires-13
-    put-word-requires-14
+    (λ c κs. search needs)
+    (λ c κs. search needs)
+    (λ c κs. search needs)
+    (λ c κs. search needs)
+    (λ c κs. search needs)
+    (λ c κs. search needs)
+    (λ c κs. search needs)
+    (λ c κs. search needs)
+    (λ c κs. search needs)
+    (λ c κs. search needs)
+    (λ c κs. search needs)
+    (λ c κs. search needs)
+    (λ c κs. search needs)
+    (λ c κs. search needs)
     returns)

@@ -15,47 +15,11 @@ use Rattle.image.proofs.Parts.{page-content}
 use Rattle.image.proofs.blocks.page.Statement.{statement}
 use Rattle.image.proofs.blocks.page.Tie as tie
 
-add-put-word : tie.Need-add-put-word
-add-put-word c = search needs
-
-cast-put-word : tie.Need-cast-put-word
-cast-put-word c = search needs
-
-put-word-requires : tie.Need-put-word-requires
-put-word-requires c κs = search needs
-
-mul-from : tie.Need-mul-from
-mul-from c = search needs
-
-add-carried : tie.Need-add-carried
-add-carried c = search needs
-
-carried-requires : tie.Need-carried-requires
-carried-requires c κs = search needs
-
-sub-copy : tie.Need-sub-copy
-sub-copy c = search needs
-
-part-copy-start : tie.Need-part-copy-start
-part-copy-start c = search needs
-
-part-copy-end : tie.Need-part-copy-end
-part-copy-end c = search needs
-
-sub-copy-2 : tie.Need-sub-copy-2
-sub-copy-2 c = search needs
-
-part-block-start : tie.Need-part-block-start
-part-block-start c = search needs
-
 part-block-end : tie.Need-part-block-end
 unfolding put-word
 part-block-end c =
     let e : length (c .before .before .put-word .last .0) ≡ 512 = ap length (c .before .before .put-word .ensures) in
     omega (arith, e)
-
-copy-requires : tie.Need-copy-requires
-copy-requires c κs = search needs
 
 -- what is left of a block of zeros after its number and its content are put in
 pasted :
@@ -83,17 +47,17 @@ pub page-spec : {M : Type 1} → statement M
 page-spec =
     tie.close
     (tie.spec
-    add-put-word
-    cast-put-word
-    put-word-requires
-    mul-from
-    add-carried
-    carried-requires
-    sub-copy
-    part-copy-start
-    part-copy-end
-    sub-copy-2
-    part-block-start
+    (λ c. search needs)
+    (λ c. search needs)
+    (λ c κs. search needs)
+    (λ c. search needs)
+    (λ c. search needs)
+    (λ c κs. search needs)
+    (λ c. search needs)
+    (λ c. search needs)
+    (λ c. search needs)
+    (λ c. search needs)
+    (λ c. search needs)
     part-block-end
-    copy-requires
+    (λ c κs. search needs)
     returns)

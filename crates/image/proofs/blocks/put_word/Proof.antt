@@ -7,21 +7,6 @@ use Rattle.image.specs.Blocks.{put-word}
 use Rattle.image.proofs.blocks.put_word.Statement.{statement}
 use Rattle.image.proofs.blocks.put_word.Tie as tie
 
-cast-block : tie.Need-cast-block
-cast-block c = search needs
-
-element-write-block : tie.Need-element-write-block
-element-write-block c = search needs
-
-cast-block-2 : tie.Need-cast-block-2
-cast-block-2 c = search needs
-
-add-block : tie.Need-add-block
-add-block c = search needs
-
-element-write-block-2 : tie.Need-element-write-block-2
-element-write-block-2 c = search needs
-
 returns : tie.Need-returns
 unfolding put-word
 returns c = rw (mod-eq-of-lt (let e : c .args .word / 256 < 256 = omega arith in e))
@@ -29,4 +14,4 @@ returns c = rw (mod-eq-of-lt (let e : c .args .word / 256 < 256 = omega arith in
 pub put-word-spec : {M : Type 1} → statement M
 put-word-spec =
     tie.close
-    (tie.spec cast-block element-write-block cast-block-2 add-block element-write-block-2 returns)
+    (tie.spec (λ c. search needs) (λ c. search needs) (λ c. search needs) (λ c. search needs) (λ c. search needs) returns)

@@ -4,42 +4,6 @@ use Rattle.image.specs.Image.{state-of}
 use Rattle.image.proofs.blocks.state_of.Statement.{statement}
 use Rattle.image.proofs.blocks.state_of.Tie as tie
 
-field-requires : tie.Need-field-requires
-field-requires c κs = search needs
-
-field-requires-2 : tie.Need-field-requires-2
-field-requires-2 c κs = search needs
-
-field-requires-3 : tie.Need-field-requires-3
-field-requires-3 c κs = search needs
-
-field-requires-4 : tie.Need-field-requires-4
-field-requires-4 c κs = search needs
-
-field-requires-5 : tie.Need-field-requires-5
-field-requires-5 c κs = search needs
-
-field-requires-6 : tie.Need-field-requires-6
-field-requires-6 c κs = search needs
-
-field-requires-7 : tie.Need-field-requires-7
-field-requires-7 c κs = search needs
-
-field-requires-8 : tie.Need-field-requires-8
-field-requires-8 c κs = search needs
-
-field-requires-9 : tie.Need-field-requires-9
-field-requires-9 c κs = search needs
-
-field-requires-10 : tie.Need-field-requires-10
-field-requires-10 c κs = search needs
-
-field-requires-11 : tie.Need-field-requires-11
-field-requires-11 c κs = search needs
-
-field-requires-12 : tie.Need-field-requires-12
-field-requires-12 c κs = search needs
-
 returns : tie.Need-returns
 unfolding state-of
 returns c =
@@ -73,16 +37,16 @@ pub state-of-spec : {M : Type 1} → statement M
 state-of-spec =
     tie.close
     (tie.spec
-    field-requires
-    field-requires-2
-    field-requires-3
-    field-requires-4
-    field-requires-5
-    field-requires-6
-    field-requires-7
-    field-requires-8
-    field-requires-9
-    field-requires-10
-    field-requires-11
-    field-requires-12
+    (λ c κs. search needs)
+    (λ c κs. search needs)
+    (λ c κs. search needs)
+    (λ c κs. search needs)
+    (λ c κs. search needs)
+    (λ c κs. search needs)
+    (λ c κs. search needs)
+    (λ c κs. search needs)
+    (λ c κs. search needs)
+    (λ c κs. search needs)
+    (λ c κs. search needs)
+    (λ c κs. search needs)
     returns)

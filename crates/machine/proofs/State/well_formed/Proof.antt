@@ -17,12 +17,9 @@ returns-3 : tie.Need-returns-3
 unfolding well-formed
 returns-3 c = simp (eq-eqb _ _ (c .before .before .if1 .left), eq-eqb _ _ (c .before .if2 .left), lt-leb _ _ (c .if3 .taken))
 
-well-formed-requires : tie.Need-well-formed-requires
-well-formed-requires c κs = search needs
-
 returns-4 : tie.Need-returns-4
 unfolding well-formed
 returns-4 c = simp (eq-eqb _ _ (c .before .before .before .if1 .left), eq-eqb _ _ (c .before .before .if2 .left), le-leb _ _ (c .before .if3 .left)) (c .well-formed .ensures)
 
 pub well-formed-spec : {M : Type 1} → statement M
-well-formed-spec = tie.close (tie.spec returns returns-2 returns-3 well-formed-requires returns-4)
+well-formed-spec = tie.close (tie.spec returns returns-2 returns-3 (λ c κs. search needs) returns-4)

@@ -5,12 +5,9 @@ use borrow.Author.Needs.{needs}
 use Rattle.machine.proofs.bus.drive.Statement.{statement}
 use Rattle.machine.proofs.bus.drive.Tie as tie
 
-drive-requires : tie.Need-drive-requires
-drive-requires c κs = search needs
-
 returns : tie.Need-returns
 unfolding perform Micro.driven
 returns c v m = rw (c .drive .ensures)
 
 pub drive-spec : {M : Type 1} → statement M
-drive-spec = tie.close (tie.spec drive-requires returns)
+drive-spec = tie.close (tie.spec (λ c κs. search needs) returns)

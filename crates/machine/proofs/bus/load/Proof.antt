@@ -5,12 +5,9 @@ use borrow.Author.Needs.{needs}
 use Rattle.machine.proofs.bus.load.Statement.{statement}
 use Rattle.machine.proofs.bus.load.Tie as tie
 
-load-requires : tie.Need-load-requires
-load-requires c κs = search needs
-
 returns : tie.Need-returns
 unfolding perform Micro.load
 returns c v = rw (c .load .ensures)
 
 pub load-spec : {M : Type 1} → statement M
-load-spec = tie.close (tie.spec load-requires returns)
+load-spec = tie.close (tie.spec (λ c κs. search needs) returns)

@@ -6,15 +6,9 @@ use borrow.Author.Needs.{needs}
 use Rattle.machine.proofs.bus.register.Statement.{statement}
 use Rattle.machine.proofs.bus.register.Tie as tie
 
-register-at-requires : tie.Need-register-at-requires
-register-at-requires c κs = search needs
-
-load-requires : tie.Need-load-requires
-load-requires c κs = search needs
-
 returns : tie.Need-returns
 unfolding perform Micro.registers Micro.load register
 returns c v = rw (← c .before .register-at .ensures) (c .load .ensures v)
 
 pub register-spec : {M : Type 1} → statement M
-register-spec = tie.close (tie.spec register-at-requires load-requires returns)
+register-spec = tie.close (tie.spec (λ c κs. search needs) (λ c κs. search needs) returns)

@@ -5,12 +5,9 @@ use borrow.Author.Needs.{needs}
 use Rattle.machine.proofs.bus.sense.Statement.{statement}
 use Rattle.machine.proofs.bus.sense.Tie as tie
 
-sense-requires : tie.Need-sense-requires
-sense-requires c κs = search needs
-
 returns : tie.Need-returns
 unfolding perform Micro.sensed
 returns c m = rw (c .before .sense .ensures)
 
 pub sense-spec : {M : Type 1} → statement M
-sense-spec = tie.close (tie.spec sense-requires returns)
+sense-spec = tie.close (tie.spec (λ c κs. search needs) returns)

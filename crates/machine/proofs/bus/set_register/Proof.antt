@@ -6,18 +6,9 @@ use borrow.Author.Needs.{needs}
 use Rattle.machine.proofs.bus.set_register.Statement.{statement}
 use Rattle.machine.proofs.bus.set_register.Tie as tie
 
-register-at-requires : tie.Need-register-at-requires
-register-at-requires c κs = search needs
-
-store-requires : tie.Need-store-requires
-store-requires c κs = search needs
-
-same-length : tie.Need-same-length
-same-length c = search needs
-
 returns : tie.Need-returns
 unfolding perform Micro.registers Micro.store set-register
 returns c v = rw (← c .before .before .before .register-at .ensures) (c .before .before .store .ensures v)
 
 pub set-register-spec : {M : Type 1} → statement M
-set-register-spec = tie.close (tie.spec register-at-requires store-requires same-length returns)
+set-register-spec = tie.close (tie.spec (λ c κs. search needs) (λ c κs. search needs) (λ c. search needs) returns)

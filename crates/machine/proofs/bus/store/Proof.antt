@@ -5,15 +5,9 @@ use borrow.Author.Needs.{needs}
 use Rattle.machine.proofs.bus.store.Statement.{statement}
 use Rattle.machine.proofs.bus.store.Tie as tie
 
-store-requires : tie.Need-store-requires
-store-requires c κs = search needs
-
-same-length : tie.Need-same-length
-same-length c = search needs
-
 returns : tie.Need-returns
 unfolding perform Micro.store
 returns c v = rw (c .before .before .store .ensures)
 
 pub store-spec : {M : Type 1} → statement M
-store-spec = tie.close (tie.spec store-requires same-length returns)
+store-spec = tie.close (tie.spec (λ c κs. search needs) (λ c. search needs) returns)

@@ -5,18 +5,9 @@ use borrow.Author.Needs.{needs}
 use Rattle.operand.proofs.results.conclude.Statement.{statement}
 use Rattle.operand.proofs.results.conclude.Tie as tie
 
-set-st-requires : tie.Need-set-st-requires
-set-st-requires c κs = search needs
-
-store-requires : tie.Need-store-requires
-store-requires c κs = search needs
-
-same-length : tie.Need-same-length
-same-length c = search needs
-
 returns : tie.Need-returns
 unfolding conclude
 returns c v f e = rw (perform-bind, perform-registers, e, perform-bind, c .before .before .before .before .set-st .ensures v _, c .before .before .store .ensures v)
 
 pub conclude-spec : {M : Type 1} → statement M
-conclude-spec = tie.close (tie.spec set-st-requires store-requires same-length returns)
+conclude-spec = tie.close (tie.spec (λ c κs. search needs) (λ c κs. search needs) (λ c. search needs) returns)

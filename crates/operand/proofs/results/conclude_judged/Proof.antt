@@ -5,18 +5,9 @@ use borrow.Author.Needs.{needs}
 use Rattle.operand.proofs.results.conclude_judged.Statement.{statement}
 use Rattle.operand.proofs.results.conclude_judged.Tie as tie
 
-judged-requires : tie.Need-judged-requires
-judged-requires c κs = search needs
-
-conclude-requires : tie.Need-conclude-requires
-conclude-requires c κs = search needs
-
-same-length : tie.Need-same-length
-same-length c = search needs
-
 returns : tie.Need-returns
 unfolding conclude-judged
 returns c v = c .before .before .conclude .ensures v (λ st. record { value = c .before .before .before .before .before .before .args .value; st = judged (c .before .before .before .before .before .before .args .width) (c .before .before .before .before .before .before .args .value) st }) (rw (c .before .before .before .before .judged .ensures))
 
 pub conclude-judged-spec : {M : Type 1} → statement M
-conclude-judged-spec = tie.close (tie.spec judged-requires conclude-requires same-length returns)
+conclude-judged-spec = tie.close (tie.spec (λ c κs. search needs) (λ c κs. search needs) (λ c. search needs) returns)

@@ -14,36 +14,9 @@ Inv-loop self₀ cycles total round counter₀ end self counter = (counter ≤ e
 abbrev μ-loop : tie.MeasureT-loop
 μ-loop self₀ cycles total round counter₀ end self counter = end - counter
 
-cast-total : tie.Need-cast-total Inv-loop μ-loop
-cast-total c = search needs
-
-add-total : tie.Need-add-total Inv-loop μ-loop
-add-total c = search needs
-
-cast-round : tie.Need-cast-round Inv-loop μ-loop
-cast-round c = search needs
-
-rem-self : tie.Need-rem-self Inv-loop μ-loop
-rem-self c = search needs
-
-cast-self : tie.Need-cast-self Inv-loop μ-loop
-cast-self c = search needs
-
-div-end : tie.Need-div-end Inv-loop μ-loop
-div-end c = search needs
-
 loop-holds : tie.Need-loop-holds Inv-loop μ-loop
 unfolding ticks
 loop-holds c = search needs
-
-tick-requires : tie.Need-tick-requires Inv-loop μ-loop
-tick-requires c κs = search needs
-
-add-counter : tie.Need-add-counter Inv-loop μ-loop
-add-counter c = search needs
-
-loop-less : tie.Need-loop-less Inv-loop μ-loop
-loop-less c = search needs
 
 loop-again : tie.Need-loop-again Inv-loop μ-loop
 unfolding ticks
@@ -62,15 +35,15 @@ advance-spec =
     (tie.spec
     Inv-loop
     μ-loop
-    cast-total
-    add-total
-    cast-round
-    rem-self
-    cast-self
-    div-end
+    (λ c. search needs)
+    (λ c. search needs)
+    (λ c. search needs)
+    (λ c. search needs)
+    (λ c. search needs)
+    (λ c. search needs)
     loop-holds
-    tick-requires
-    add-counter
-    loop-less
+    (λ c κs. search needs)
+    (λ c. search needs)
+    (λ c. search needs)
     loop-again
     returns)

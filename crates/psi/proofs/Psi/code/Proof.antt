@@ -5,9 +5,6 @@ use borrow.Author.Needs.{needs}
 use Rattle.psi.proofs.Psi.code.Statement.{statement}
 use Rattle.psi.proofs.Psi.code.Tie as tie
 
-request-requires : tie.Need-request-requires
-request-requires c κs = search needs
-
 returns : tie.Need-returns
 unfolding code
 returns c = rw (← c .before .request .ensures, eq-eqb _ _ (c .if1 .taken))
@@ -17,4 +14,4 @@ unfolding code
 returns-2 c = rw (← c .before .request .ensures, ne-eqb _ _ (c .if1 .left))
 
 pub code-spec : {M : Type 1} → statement M
-code-spec = tie.close (tie.spec request-requires returns returns-2)
+code-spec = tie.close (tie.spec (λ c κs. search needs) returns returns-2)

@@ -4,12 +4,6 @@ use borrow.Author.Needs.{needs}
 use Rattle.psi.proofs.Psi.controlled.Statement.{statement}
 use Rattle.psi.proofs.Psi.controlled.Tie as tie
 
-put-requires : tie.Need-put-requires
-put-requires c κs = search needs
-
-refreshed-requires : tie.Need-refreshed-requires
-refreshed-requires c κs = search needs
-
 returns : tie.Need-returns
 unfolding controlled
 returns c = rw (c .before .put .ensures, c .if1 .taken)
@@ -19,4 +13,4 @@ unfolding controlled
 returns-2 c = rw (c .refreshed .ensures, c .before .before .put .ensures, c .before .if1 .left)
 
 pub controlled-spec : {M : Type 1} → statement M
-controlled-spec = tie.close (tie.spec put-requires refreshed-requires returns returns-2)
+controlled-spec = tie.close (tie.spec (λ c κs. search needs) (λ c κs. search needs) returns returns-2)

@@ -7,9 +7,6 @@ use Rattle.psi.specs.Clock.{counted}
 use Rattle.psi.proofs.Psi.counted.Statement.{statement}
 use Rattle.psi.proofs.Psi.counted.Tie as tie
 
-sub-result : tie.Need-sub-result
-sub-result c = search needs
-
 returns : tie.Need-returns
 unfolding counted
 returns c =
@@ -27,4 +24,4 @@ unfolding counted
 returns-3 c = rw (ne-eqb _ _ (c .before .if1 .left))
 
 pub counted-spec : {M : Type 1} → statement M
-counted-spec = tie.close (tie.spec sub-result returns returns-2 returns-3)
+counted-spec = tie.close (tie.spec (λ c. search needs) returns returns-2 returns-3)

@@ -5,33 +5,9 @@ use borrow.Author.Needs.{needs}
 use Rattle.psi.proofs.Psi.drive.Statement.{statement}
 use Rattle.psi.proofs.Psi.drive.Tie as tie
 
-controlled-requires : tie.Need-controlled-requires
-controlled-requires c κs = search needs
-
 returns : tie.Need-returns
 unfolding driven
 returns c = rw (eq-eqb _ _ (c .before .if1 .taken), c .controlled .ensures)
-
-control-requires : tie.Need-control-requires
-control-requires c κs = search needs
-
-cast-timed : tie.Need-cast-timed
-cast-timed c = search needs
-
-timed-requires : tie.Need-timed-requires
-timed-requires c κs = search needs
-
-cast-masked : tie.Need-cast-masked
-cast-masked c = search needs
-
-masked-requires : tie.Need-masked-requires
-masked-requires c κs = search needs
-
-cast-latched : tie.Need-cast-latched
-cast-latched c = search needs
-
-latched-requires : tie.Need-latched-requires
-latched-requires c κs = search needs
 
 returns-2 : tie.Need-returns-2
 unfolding driven
@@ -78,15 +54,15 @@ pub drive-spec : {M : Type 1} → statement M
 drive-spec =
     tie.close
     (tie.spec
-    controlled-requires
+    (λ c κs. search needs)
     returns
-    control-requires
-    cast-timed
-    timed-requires
-    cast-masked
-    masked-requires
-    cast-latched
-    latched-requires
+    (λ c κs. search needs)
+    (λ c. search needs)
+    (λ c κs. search needs)
+    (λ c. search needs)
+    (λ c κs. search needs)
+    (λ c. search needs)
+    (λ c κs. search needs)
     returns-2
     returns-3
     returns-4

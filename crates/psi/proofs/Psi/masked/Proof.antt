@@ -7,9 +7,6 @@ use borrow.Author.Needs.{needs}
 use Rattle.psi.proofs.Psi.masked.Statement.{statement}
 use Rattle.psi.proofs.Psi.masked.Tie as tie
 
-put-requires : tie.Need-put-requires
-put-requires c κs = search needs
-
 returns : tie.Need-returns
 unfolding masked
 returns c =
@@ -21,4 +18,4 @@ unfolding masked
 returns-2 c = rw (ne-eqb _ _ (c .if1 .left), c .before .put .ensures)
 
 pub masked-spec : {M : Type 1} → statement M
-masked-spec = tie.close (tie.spec put-requires returns returns-2)
+masked-spec = tie.close (tie.spec (λ c κs. search needs) returns returns-2)

@@ -9,9 +9,6 @@ returns : tie.Need-returns
 unfolding pended
 returns c = simp (eq-eqb _ _ (c .if1 .taken))
 
-counted-requires : tie.Need-counted-requires
-counted-requires c κs = search needs
-
 returns-2 : tie.Need-returns-2
 unfolding pended
 returns-2 c =
@@ -22,4 +19,4 @@ unfolding pended
 returns-3 c = simp (ne-eqb _ _ (c .before .before .if1 .left), ← c .before .counted .ensures, ne-eqb _ _ (c .if2 .left))
 
 pub pended-spec : {M : Type 1} → statement M
-pended-spec = tie.close (tie.spec returns counted-requires returns-2 returns-3)
+pended-spec = tie.close (tie.spec returns (λ c κs. search needs) returns-2 returns-3)

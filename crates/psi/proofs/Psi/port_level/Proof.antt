@@ -4,24 +4,6 @@ use borrow.Author.Needs.{needs}
 use Rattle.psi.proofs.Psi.port_level.Statement.{statement}
 use Rattle.psi.proofs.Psi.port_level.Tie as tie
 
-cast-bit : tie.Need-cast-bit
-cast-bit c = search needs
-
-bit-requires : tie.Need-bit-requires
-bit-requires c κs = search needs
-
-cast-bit-2 : tie.Need-cast-bit-2
-cast-bit-2 c = search needs
-
-bit-requires-2 : tie.Need-bit-requires-2
-bit-requires-2 c κs = search needs
-
-port-weight-requires : tie.Need-port-weight-requires
-port-weight-requires c κs = search needs
-
-bit-requires-3 : tie.Need-bit-requires-3
-bit-requires-3 c κs = search needs
-
 returns : tie.Need-returns
 unfolding port-level
 returns c = rw (c .bit2 .ensures, ← c .before .before .before .bit .ensures, c .before .before .if1 .taken)
@@ -40,11 +22,11 @@ pub port-level-spec : {M : Type 1} → statement M
 port-level-spec =
     tie.close
     (tie.spec
-    cast-bit
-    bit-requires
-    cast-bit-2
-    bit-requires-2
-    port-weight-requires
-    bit-requires-3
+    (λ c. search needs)
+    (λ c κs. search needs)
+    (λ c. search needs)
+    (λ c κs. search needs)
+    (λ c κs. search needs)
+    (λ c κs. search needs)
     returns
     returns-2)

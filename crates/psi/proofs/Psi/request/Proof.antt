@@ -14,15 +14,6 @@ Inv-loop self levels mask n₀ n = (0 < n) × (n ≤ 16) × (lowest self levels 
 abbrev μ-loop : tie.MeasureT-loop
 μ-loop self levels mask n₀ n = 16 - n
 
-cast-mask : tie.Need-cast-mask Inv-loop μ-loop
-cast-mask c = search needs
-
-loop-holds : tie.Need-loop-holds Inv-loop μ-loop
-loop-holds c = search needs
-
-shr-loop : tie.Need-shr-loop Inv-loop μ-loop
-shr-loop c = search needs
-
 inside : (c : tie.In-loop Inv-loop μ-loop) → c .before .loop .n < 16
 inside c = below-width 16 _ _ (omega arith) (c .loop-test .taken)
 
@@ -37,9 +28,6 @@ unfolding request
 returns c =
     let here = lowest-here _ _ _ (inside (c .before .before)) (sym (c .before .requested .ensures) ∙ c .if1 .taken) in
     sym (c .before .before .before .loop .inv .2 ∙ here)
-
-add-n : tie.Need-add-n Inv-loop μ-loop
-add-n c = search needs
 
 loop-less : tie.Need-loop-less Inv-loop μ-loop
 loop-less c = omega (arith, inside (c .before .before))
@@ -59,13 +47,13 @@ request-spec =
     (tie.spec
     Inv-loop
     μ-loop
-    cast-mask
-    loop-holds
-    shr-loop
+    (λ c. search needs)
+    (λ c. search needs)
+    (λ c. search needs)
     requested-requires
     cast-result
     returns
-    add-n
+    (λ c. search needs)
     loop-less
     loop-again
     returns-2)

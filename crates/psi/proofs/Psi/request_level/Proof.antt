@@ -5,18 +5,6 @@ use borrow.Author.Needs.{needs}
 use Rattle.psi.proofs.Psi.request_level.Statement.{statement}
 use Rattle.psi.proofs.Psi.request_level.Tie as tie
 
-sub-bit : tie.Need-sub-bit
-sub-bit c = search needs
-
-bit-requires : tie.Need-bit-requires
-bit-requires c κs = search needs
-
-sub-port-level : tie.Need-sub-port-level
-sub-port-level c = search needs
-
-port-level-requires : tie.Need-port-level-requires
-port-level-requires c κs = search needs
-
 returns : tie.Need-returns
 unfolding request-level
 returns c = simp (c .bit .ensures, lt-ltb _ _ (c .before .if1 .taken))
@@ -27,4 +15,4 @@ returns-2 c = simp (c .port-level .ensures, le-ltb _ _ (c .before .if1 .left))
 
 pub request-level-spec : {M : Type 1} → statement M
 request-level-spec =
-    tie.close (tie.spec sub-bit bit-requires sub-port-level port-level-requires returns returns-2)
+    tie.close (tie.spec (λ c. search needs) (λ c κs. search needs) (λ c. search needs) (λ c κs. search needs) returns returns-2)

@@ -4,15 +4,6 @@ use borrow.Author.Needs.{needs}
 use Rattle.psi.proofs.Psi.requested.Statement.{statement}
 use Rattle.psi.proofs.Psi.requested.Tie as tie
 
-cast-bit : tie.Need-cast-bit
-cast-bit c = search needs
-
-bit-requires : tie.Need-bit-requires
-bit-requires c κs = search needs
-
-active-requires : tie.Need-active-requires
-active-requires c κs = search needs
-
 returns : tie.Need-returns
 unfolding requested
 returns c = rw (c .active .ensures, ← c .before .before .bit .ensures, c .before .if1 .taken)
@@ -22,4 +13,4 @@ unfolding requested
 returns-2 c = rw (← c .before .bit .ensures, c .if1 .left)
 
 pub requested-spec : {M : Type 1} → statement M
-requested-spec = tie.close (tie.spec cast-bit bit-requires active-requires returns returns-2)
+requested-spec = tie.close (tie.spec (λ c. search needs) (λ c κs. search needs) (λ c κs. search needs) returns returns-2)

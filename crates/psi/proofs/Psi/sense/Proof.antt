@@ -5,12 +5,6 @@ use borrow.Author.Needs.{needs}
 use Rattle.psi.proofs.Psi.sense.Statement.{statement}
 use Rattle.psi.proofs.Psi.sense.Tie as tie
 
-sensed-value-requires : tie.Need-sensed-value-requires
-sensed-value-requires c κs = search needs
-
-refreshed-requires : tie.Need-refreshed-requires
-refreshed-requires c κs = search needs
-
 returns : tie.Need-returns
 unfolding sensed
 returns c = rw (lt-ltb _ _ (c .if1 .taken), c .before .sensed-value .ensures)
@@ -36,4 +30,4 @@ returns-3 c =
 
 pub sense-spec : {M : Type 1} → statement M
 sense-spec =
-    tie.close (tie.spec sensed-value-requires refreshed-requires returns returns-2 returns-3)
+    tie.close (tie.spec (λ c κs. search needs) (λ c κs. search needs) returns returns-2 returns-3)

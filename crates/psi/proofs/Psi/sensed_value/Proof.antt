@@ -5,27 +5,9 @@ use borrow.Author.Needs.{needs}
 use Rattle.psi.proofs.Psi.sensed_value.Statement.{statement}
 use Rattle.psi.proofs.Psi.sensed_value.Tie as tie
 
-control-requires : tie.Need-control-requires
-control-requires c κs = search needs
-
 returns : tie.Need-returns
 unfolding sensed-value
 returns c = rw (eq-eqb _ _ (c .before .if1 .taken), c .control .ensures)
-
-control-requires-2 : tie.Need-control-requires-2
-control-requires-2 c κs = search needs
-
-timed-value-requires : tie.Need-timed-value-requires
-timed-value-requires c κs = search needs
-
-request-level-requires : tie.Need-request-level-requires
-request-level-requires c κs = search needs
-
-cast-port-level : tie.Need-cast-port-level
-cast-port-level c = search needs
-
-port-level-requires : tie.Need-port-level-requires
-port-level-requires c κs = search needs
 
 returns-2 : tie.Need-returns-2
 unfolding sensed-value
@@ -72,13 +54,13 @@ pub sensed-value-spec : {M : Type 1} → statement M
 sensed-value-spec =
     tie.close
     (tie.spec
-    control-requires
+    (λ c κs. search needs)
     returns
-    control-requires-2
-    timed-value-requires
-    request-level-requires
-    cast-port-level
-    port-level-requires
+    (λ c κs. search needs)
+    (λ c κs. search needs)
+    (λ c κs. search needs)
+    (λ c. search needs)
+    (λ c κs. search needs)
     returns-2
     returns-3
     returns-4

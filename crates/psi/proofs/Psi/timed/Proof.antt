@@ -13,15 +13,9 @@ returns-2 : tie.Need-returns-2
 unfolding timed
 returns-2 c = rw (eq-eqb _ _ (c .before .if1 .taken), c .if2 .left)
 
-sub-put : tie.Need-sub-put
-sub-put c = search needs
-
-put-requires : tie.Need-put-requires
-put-requires c κs = search needs
-
 returns-3 : tie.Need-returns-3
 unfolding timed
 returns-3 c = rw (ne-eqb _ _ (c .before .if1 .left), c .put .ensures)
 
 pub timed-spec : {M : Type 1} → statement M
-timed-spec = tie.close (tie.spec returns returns-2 sub-put put-requires returns-3)
+timed-spec = tie.close (tie.spec returns returns-2 (λ c. search needs) (λ c κs. search needs) returns-3)

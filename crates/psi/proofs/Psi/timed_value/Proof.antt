@@ -5,18 +5,6 @@ use borrow.Author.Needs.{needs}
 use Rattle.psi.proofs.Psi.timed_value.Statement.{statement}
 use Rattle.psi.proofs.Psi.timed_value.Tie as tie
 
-request-requires : tie.Need-request-requires
-request-requires c κs = search needs
-
-cast-bit : tie.Need-cast-bit
-cast-bit c = search needs
-
-sub-bit : tie.Need-sub-bit
-sub-bit c = search needs
-
-bit-requires : tie.Need-bit-requires
-bit-requires c κs = search needs
-
 returns : tie.Need-returns
 unfolding timed-value
 returns c = rw (eq-eqb _ _ (c .before .if1 .taken), c .request .ensures)
@@ -27,4 +15,4 @@ returns-2 c = rw (ne-eqb _ _ (c .before .before .if1 .left), c .bit .ensures)
 
 pub timed-value-spec : {M : Type 1} → statement M
 timed-value-spec =
-    tie.close (tie.spec request-requires cast-bit sub-bit bit-requires returns returns-2)
+    tie.close (tie.spec (λ c κs. search needs) (λ c. search needs) (λ c. search needs) (λ c κs. search needs) returns returns-2)

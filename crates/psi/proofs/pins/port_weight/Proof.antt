@@ -5,12 +5,6 @@ use borrow.Author.Needs.{needs}
 use Rattle.psi.proofs.pins.port_weight.Statement.{statement}
 use Rattle.psi.proofs.pins.port_weight.Tie as tie
 
-add-result : tie.Need-add-result
-add-result c = search needs
-
-sub-result : tie.Need-sub-result
-sub-result c = search needs
-
 returns : tie.Need-returns
 unfolding port-weight
 returns c = simp (lt-ltb _ _ (c .if1 .taken))
@@ -20,4 +14,4 @@ unfolding port-weight
 returns-2 c = simp (le-ltb _ _ (c .if1 .left))
 
 pub port-weight-spec : {M : Type 1} → statement M
-port-weight-spec = tie.close (tie.spec add-result sub-result returns returns-2)
+port-weight-spec = tie.close (tie.spec (λ c. search needs) (λ c. search needs) returns returns-2)

@@ -11,14 +11,5 @@ slice-aggregate-unlink c =
     let a = c .before .before .before .args in
     sym (length-take-le (a .end) (a .name .now) (omega arith))
 
-unlink-requires : tie.Need-unlink-requires
-unlink-requires c κs = search needs
-
-returns : tie.Need-returns
-returns c = search needs
-
-returns-2 : tie.Need-returns-2
-returns-2 c = search needs
-
 pub discard-spec : {M : Type 1} → statement M
-discard-spec = tie.close (tie.spec slice-aggregate-unlink unlink-requires returns returns-2)
+discard-spec = tie.close (tie.spec slice-aggregate-unlink (λ c κs. search needs) (λ c. search needs) (λ c. search needs))

@@ -4,24 +4,6 @@ use borrow.Author.Needs.{needs}
 use Rattle.replay_core.proofs.boundary.admitted.Statement.{statement}
 use Rattle.replay_core.proofs.boundary.admitted.Tie as tie
 
-enum-told : tie.Need-enum-told
-enum-told c = search needs
-
-enum-told-2 : tie.Need-enum-told-2
-enum-told-2 c = search needs
-
-admitted-load-requires : tie.Need-admitted-load-requires
-admitted-load-requires c κs = search needs
-
-enum-known-signal : tie.Need-enum-known-signal
-enum-known-signal c = search needs
-
-admitted-level-requires : tie.Need-admitted-level-requires
-admitted-level-requires c κs = search needs
-
-enum-told-3 : tie.Need-enum-told-3
-enum-told-3 c = search needs
-
 returns : tie.Need-returns
 unfolding Step.admitted
 returns c = rw (c .enum-told .given .1)
@@ -41,12 +23,12 @@ pub admitted-spec : {M : Type 1} → statement M
 admitted-spec =
     tie.close
     (tie.spec
-    enum-told
-    enum-told-2
-    admitted-load-requires
-    enum-known-signal
-    admitted-level-requires
-    enum-told-3
+    (λ c. search needs)
+    (λ c. search needs)
+    (λ c κs. search needs)
+    (λ c. search needs)
+    (λ c κs. search needs)
+    (λ c. search needs)
     returns
     returns-2
     returns-3

@@ -5,12 +5,6 @@ use borrow.Author.Needs.{needs}
 use Rattle.replay_core.proofs.boundary.admitted_level.Statement.{statement}
 use Rattle.replay_core.proofs.boundary.admitted_level.Tie as tie
 
-cast-bit : tie.Need-cast-bit
-cast-bit c = search needs
-
-bit-requires : tie.Need-bit-requires
-bit-requires c κs = search needs
-
 returns : tie.Need-returns
 unfolding Step.admitted
 returns c = rw (← c .before .bit .ensures, c .if1 .taken)
@@ -24,4 +18,4 @@ unfolding Step.admitted
 returns-3 c = rw (← c .before .before .before .bit .ensures, c .before .before .if1 .left, lt-leb _ _ (c .if2 .left))
 
 pub admitted-level-spec : {M : Type 1} → statement M
-admitted-level-spec = tie.close (tie.spec cast-bit bit-requires returns returns-2 returns-3)
+admitted-level-spec = tie.close (tie.spec (λ c. search needs) (λ c κs. search needs) returns returns-2 returns-3)

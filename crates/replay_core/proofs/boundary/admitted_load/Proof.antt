@@ -4,12 +4,6 @@ use borrow.Author.Needs.{needs}
 use Rattle.replay_core.proofs.boundary.admitted_load.Statement.{statement}
 use Rattle.replay_core.proofs.boundary.admitted_load.Tie as tie
 
-cast-bit : tie.Need-cast-bit
-cast-bit c = search needs
-
-bit-requires : tie.Need-bit-requires
-bit-requires c κs = search needs
-
 returns : tie.Need-returns
 unfolding Step.admitted
 returns c = rw (← c .before .bit .ensures, c .if1 .taken)
@@ -19,4 +13,4 @@ unfolding Step.admitted
 returns-2 c = rw (← c .before .bit .ensures, c .if1 .left)
 
 pub admitted-load-spec : {M : Type 1} → statement M
-admitted-load-spec = tie.close (tie.spec cast-bit bit-requires returns returns-2)
+admitted-load-spec = tie.close (tie.spec (λ c. search needs) (λ c κs. search needs) returns returns-2)

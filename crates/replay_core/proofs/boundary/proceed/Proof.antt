@@ -5,30 +5,9 @@ use borrow.Author.Needs.{needs}
 use Rattle.replay_core.proofs.boundary.proceed.Statement.{statement}
 use Rattle.replay_core.proofs.boundary.proceed.Tie as tie
 
-put-requires : tie.Need-put-requires
-put-requires c κs = search needs
-
-set-flags-requires : tie.Need-set-flags-requires
-set-flags-requires c κs = search needs
-
-cast-bit : tie.Need-cast-bit
-cast-bit c = search needs
-
-bit-requires : tie.Need-bit-requires
-bit-requires c κs = search needs
-
 returns : tie.Need-returns
 unfolding Step.proceed
 returns c = rw (perform-bind, perform-registers, perform-bind, ← c .before .before .before .put .ensures, c .before .before .set-flags .ensures _ _, ← c .before .bit .ensures, c .if1 .taken, perform-done)
-
-fetch-requires : tie.Need-fetch-requires
-fetch-requires c κs = search needs
-
-execute-requires : tie.Need-execute-requires
-execute-requires c κs = search needs
-
-same-length : tie.Need-same-length
-same-length c = search needs
 
 returns-2 : tie.Need-returns-2
 unfolding Step.proceed
@@ -38,12 +17,12 @@ pub proceed-spec : {M : Type 1} → statement M
 proceed-spec =
     tie.close
     (tie.spec
-    put-requires
-    set-flags-requires
-    cast-bit
-    bit-requires
+    (λ c κs. search needs)
+    (λ c κs. search needs)
+    (λ c. search needs)
+    (λ c κs. search needs)
     returns
-    fetch-requires
-    execute-requires
-    same-length
+    (λ c κs. search needs)
+    (λ c κs. search needs)
+    (λ c. search needs)
     returns-2)

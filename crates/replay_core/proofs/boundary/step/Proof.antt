@@ -5,27 +5,6 @@ use borrow.Author.Needs.{needs}
 use Rattle.replay_core.proofs.boundary.step.Statement.{statement}
 use Rattle.replay_core.proofs.boundary.step.Tie as tie
 
-split-requires : tie.Need-split-requires
-split-requires c κs = search needs
-
-advance-requires : tie.Need-advance-requires
-advance-requires c κs = search needs
-
-code-requires : tie.Need-code-requires
-code-requires c κs = search needs
-
-signal-requires : tie.Need-signal-requires
-signal-requires c κs = search needs
-
-admitted-requires : tie.Need-admitted-requires
-admitted-requires c κs = search needs
-
-boundary-requires : tie.Need-boundary-requires
-boundary-requires c κs = search needs
-
-same-length : tie.Need-same-length
-same-length c = search needs
-
 returns : tie.Need-returns
 unfolding Step.step Step.stepping
 returns c =
@@ -36,11 +15,11 @@ pub step-spec : {M : Type 1} → statement M
 step-spec =
     tie.close
     (tie.spec
-    split-requires
-    advance-requires
-    code-requires
-    signal-requires
-    admitted-requires
-    boundary-requires
-    same-length
+    (λ c κs. search needs)
+    (λ c κs. search needs)
+    (λ c κs. search needs)
+    (λ c κs. search needs)
+    (λ c κs. search needs)
+    (λ c κs. search needs)
+    (λ c. search needs)
     returns)

@@ -10,18 +10,9 @@ use borrow.Author.Needs.{needs}
 use Rattle.replay_core.proofs.run.power_up.Statement.{statement}
 use Rattle.replay_core.proofs.run.power_up.Tie as tie
 
-blank-requires : tie.Need-blank-requires
-blank-requires c κs = search needs
-
 returns : tie.Need-returns
 unfolding power-up power-up-refusal
 returns c = (simp (ne-eqb _ _ (c .if1 .taken), c .before .blank .ensures), simp (ne-eqb _ _ (c .if1 .taken)))
-
-enter-requires : tie.Need-enter-requires
-enter-requires c κs = search needs
-
-same-length : tie.Need-same-length
-same-length c = search needs
 
 returns-2 : tie.Need-returns-2
 unfolding Step.boundary
@@ -31,4 +22,4 @@ returns-2 c =
     (sym (ap (λ (z : StateResult). z .answer) e), sym (ap (λ (z : StateResult). z .memory) e))
 
 pub power-up-spec : {M : Type 1} → statement M
-power-up-spec = tie.close (tie.spec blank-requires returns enter-requires same-length returns-2)
+power-up-spec = tie.close (tie.spec (λ c κs. search needs) returns (λ c κs. search needs) (λ c. search needs) returns-2)

@@ -7,18 +7,12 @@ use borrow.Author.Needs.{needs}
 use Rattle.replay_core.proofs.run.run.Statement.{statement}
 use Rattle.replay_core.proofs.run.run.Tie as tie
 
-run-refusal-requires : tie.Need-run-refusal-requires
-run-refusal-requires c κs = search needs
-
 returns : tie.Need-returns
 unfolding run run-refusal
 returns c = (rw (← c .before .run-refusal .ensures, ne-eqb _ _ (c .if1 .taken)), rw (← c .before .run-refusal .ensures, ne-eqb _ _ (c .if1 .taken)))
 
 run-steps-requires : tie.Need-run-steps-requires
 run-steps-requires c κs = accepted _ _ _ _ (sym (c .before .before .run-refusal .ensures) ∙ c .before .if1 .left)
-
-same-length : tie.Need-same-length
-same-length c = search needs
 
 returns-2 : tie.Need-returns-2
 unfolding run-refusal
@@ -32,4 +26,4 @@ returns-2 c =
 
 pub run-spec : {M : Type 1} → statement M
 run-spec =
-    tie.close (tie.spec run-refusal-requires returns run-steps-requires same-length returns-2)
+    tie.close (tie.spec (λ c κs. search needs) returns run-steps-requires (λ c. search needs) returns-2)

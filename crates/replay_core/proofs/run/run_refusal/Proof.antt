@@ -7,9 +7,6 @@ use Rattle.replay_core.proofs.run.run_refusal.Tie as tie
 returns : tie.Need-returns
 returns c = simp (ne-eqb _ _ (c .if1 .taken))
 
-well-formed-requires : tie.Need-well-formed-requires
-well-formed-requires c κs = search needs
-
 returns-2 : tie.Need-returns-2
 returns-2 c = simp (eq-eqb _ _ (c .before .before .if1 .left), ← c .before .well-formed .ensures, not-true (c .before .well-formed .result) (c .if2 .taken))
 
@@ -20,4 +17,4 @@ returns-4 : tie.Need-returns-4
 returns-4 c = simp (eq-eqb _ _ (c .before .before .before .if1 .left), ← c .before .before .well-formed .ensures, not-false (c .before .before .well-formed .result) (c .before .if2 .left), le-ltb _ _ (c .if3 .left))
 
 pub run-refusal-spec : {M : Type 1} → statement M
-run-refusal-spec = tie.close (tie.spec returns well-formed-requires returns-2 returns-3 returns-4)
+run-refusal-spec = tie.close (tie.spec returns (λ c κs. search needs) returns-2 returns-3 returns-4)

@@ -26,33 +26,12 @@ abbrev μ-loop : tie.MeasureT-loop
 loop-holds : tie.Need-loop-holds Inv-loop μ-loop
 loop-holds c = (c .before .before .pre .0, omega arith, omega arith, rw (sub-zero) (sym (further-none _)))
 
-same-length : tie.Need-same-length Inv-loop μ-loop
-same-length c = search needs
-
 returns : tie.Need-returns Inv-loop μ-loop
 returns c =
     (c .before .before .loop .inv .3 ∙ rw (stopped _ _ _ _ (eq-eqb _ _ (c .if1 .taken))) (simp add-zero), refl)
 
-mul-step : tie.Need-mul-step Inv-loop μ-loop
-mul-step c = search needs
-
-shared-slice-read-step : tie.Need-shared-slice-read-step Inv-loop μ-loop
-shared-slice-read-step c = search needs
-
-step-requires : tie.Need-step-requires Inv-loop μ-loop
-step-requires c κs = search needs
-
-missed-requires : tie.Need-missed-requires Inv-loop μ-loop
-missed-requires c κs = search needs
-
 add-unassigned : tie.Need-add-unassigned Inv-loop μ-loop
 add-unassigned c = omega (arith, c .missed .ensures, missed-at-most (c .before .before .before .before .step .result .kind), c .before .before .before .before .before .before .before .before .before .before .before .before .fits .steps .fits)
-
-add-done : tie.Need-add-done Inv-loop μ-loop
-add-done c = search needs
-
-loop-less : tie.Need-loop-less Inv-loop μ-loop
-loop-less c = search needs
 
 loop-again : tie.Need-loop-again Inv-loop μ-loop
 loop-again c =
@@ -65,9 +44,6 @@ loop-again c =
           ∙ rw (goes-on (args .stop) (args .steps) (loop .done) (now (args .records)) (at (loop .s) (loop .bytes)) (ne-eqb _ _ (c .before .before .before .before .before .before .before .if1 .left)) (omega arith) (omega arith), c .before .before .before .before .step .ensures)
           (further-once (loop .done) (loop .unassigned) (c .before .before .before .before .step .result .kind) _ ∙ rw (← c .missed .ensures)),
     )
-
-same-length-2 : tie.Need-same-length-2 Inv-loop μ-loop
-same-length-2 c = search needs
 
 returns-2 : tie.Need-returns-2 Inv-loop μ-loop
 returns-2 c = (
@@ -84,15 +60,15 @@ run-steps-spec =
     Inv-loop
     μ-loop
     loop-holds
-    same-length
+    (λ c. search needs)
     returns
-    mul-step
-    shared-slice-read-step
-    step-requires
-    missed-requires
+    (λ c. search needs)
+    (λ c. search needs)
+    (λ c κs. search needs)
+    (λ c κs. search needs)
     add-unassigned
-    add-done
-    loop-less
+    (λ c. search needs)
+    (λ c. search needs)
     loop-again
-    same-length-2
+    (λ c. search needs)
     returns-2)

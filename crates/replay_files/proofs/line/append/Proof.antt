@@ -8,20 +8,8 @@ use borrow.Author.Needs.{needs}
 use Rattle.replay_files.proofs.line.append.Statement.{statement}
 use Rattle.replay_files.proofs.line.append.Tie as tie
 
-add-to : tie.Need-add-to
-add-to c = search needs
-
-sub-copy : tie.Need-sub-copy
-sub-copy c = search needs
-
-part-bytes-start : tie.Need-part-bytes-start
-part-bytes-start c = search needs
-
 part-bytes-end : tie.Need-part-bytes-end
 part-bytes-end c = omega arith
-
-copy-requires : tie.Need-copy-requires
-copy-requires c κs = search needs
 
 returns : tie.Need-returns
 returns c =
@@ -33,4 +21,4 @@ returns c =
 
 pub append-spec : {M : Type 1} → statement M
 append-spec =
-    tie.close (tie.spec add-to sub-copy part-bytes-start part-bytes-end copy-requires returns)
+    tie.close (tie.spec (λ c. search needs) (λ c. search needs) (λ c. search needs) part-bytes-end (λ c κs. search needs) returns)

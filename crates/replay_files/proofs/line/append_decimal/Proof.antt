@@ -9,15 +9,6 @@ use borrow.Author.Needs.{needs}
 use Rattle.replay_files.proofs.line.append_decimal.Statement.{statement}
 use Rattle.replay_files.proofs.line.append_decimal.Tie as tie
 
-decimal-requires : tie.Need-decimal-requires
-decimal-requires c κs = search needs
-
-array-share-prefix-digits : tie.Need-array-share-prefix-digits
-array-share-prefix-digits c = search needs
-
-slice-aggregate-append : tie.Need-slice-aggregate-append
-slice-aggregate-append c = search needs
-
 append-requires : tie.Need-append-requires
 append-requires c κs =
     let d = c .before .decimal in
@@ -38,8 +29,8 @@ pub append-decimal-spec : {M : Type 1} → statement M
 append-decimal-spec =
     tie.close
     (tie.spec
-    decimal-requires
-    array-share-prefix-digits
-    slice-aggregate-append
+    (λ c κs. search needs)
+    (λ c. search needs)
+    (λ c. search needs)
     append-requires
     returns)

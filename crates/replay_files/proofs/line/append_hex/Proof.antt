@@ -4,18 +4,9 @@ use borrow.Author.Needs.{needs}
 use Rattle.replay_files.proofs.line.append_hex.Statement.{statement}
 use Rattle.replay_files.proofs.line.append_hex.Tie as tie
 
-hex-requires : tie.Need-hex-requires
-hex-requires c κs = search needs
-
-slice-aggregate-append : tie.Need-slice-aggregate-append
-slice-aggregate-append c = search needs
-
-append-requires : tie.Need-append-requires
-append-requires c κs = search needs
-
 returns : tie.Need-returns
 unfolding hex
 returns c = (c .append .ensures .0, (rw (c .append .ensures .1 .0, c .before .before .hex .ensures), rw (c .append .ensures .1 .1, c .before .before .hex .ensures)))
 
 pub append-hex-spec : {M : Type 1} → statement M
-append-hex-spec = tie.close (tie.spec hex-requires slice-aggregate-append append-requires returns)
+append-hex-spec = tie.close (tie.spec (λ c κs. search needs) (λ c. search needs) (λ c κs. search needs) returns)

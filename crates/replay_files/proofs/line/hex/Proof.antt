@@ -4,22 +4,10 @@ use borrow.Author.Needs.{needs}
 use Rattle.replay_files.proofs.line.hex.Statement.{statement}
 use Rattle.replay_files.proofs.line.hex.Tie as tie
 
-glyph-requires : tie.Need-glyph-requires
-glyph-requires c κs = search needs
-
-glyph-requires-2 : tie.Need-glyph-requires-2
-glyph-requires-2 c κs = search needs
-
-glyph-requires-3 : tie.Need-glyph-requires-3
-glyph-requires-3 c κs = search needs
-
-glyph-requires-4 : tie.Need-glyph-requires-4
-glyph-requires-4 c κs = search needs
-
 returns : tie.Need-returns
 unfolding hex
 returns c = rw (c .before .before .before .glyph .ensures, c .before .before .glyph2 .ensures, c .before .glyph3 .ensures, c .glyph4 .ensures)
 
 pub hex-spec : {M : Type 1} → statement M
 hex-spec =
-    tie.close (tie.spec glyph-requires glyph-requires-2 glyph-requires-3 glyph-requires-4 returns)
+    tie.close (tie.spec (λ c κs. search needs) (λ c κs. search needs) (λ c κs. search needs) (λ c κs. search needs) returns)

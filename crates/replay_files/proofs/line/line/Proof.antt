@@ -9,12 +9,6 @@ use borrow.Author.Needs.{needs}
 use Rattle.replay_files.proofs.line.line.Statement.{statement}
 use Rattle.replay_files.proofs.line.line.Tie as tie
 
-counts-requires : tie.Need-counts-requires
-counts-requires c κs = search needs
-
-registers-requires : tie.Need-registers-requires
-registers-requires c κs = search needs
-
 returns : tie.Need-returns
 unfolding text
 returns c =
@@ -22,4 +16,4 @@ returns c =
     ((fits, sym (length-take-le _ _ fits)), rw (c .registers .ensures .1 .1, c .before .counts .ensures .1 .1))
 
 pub line-spec : {M : Type 1} → statement M
-line-spec = tie.close (tie.spec counts-requires registers-requires returns)
+line-spec = tie.close (tie.spec (λ c κs. search needs) (λ c κs. search needs) returns)

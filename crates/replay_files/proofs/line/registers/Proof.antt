@@ -7,39 +7,6 @@ use borrow.Author.Needs.{needs}
 use Rattle.replay_files.proofs.line.registers.Statement.{statement}
 use Rattle.replay_files.proofs.line.registers.Tie as tie
 
-slice-aggregate-append : tie.Need-slice-aggregate-append
-slice-aggregate-append c = search needs
-
-append-requires : tie.Need-append-requires
-append-requires c κs = search needs
-
-append-hex-requires : tie.Need-append-hex-requires
-append-hex-requires c κs = search needs
-
-slice-aggregate-append-2 : tie.Need-slice-aggregate-append-2
-slice-aggregate-append-2 c = search needs
-
-append-requires-2 : tie.Need-append-requires-2
-append-requires-2 c κs = search needs
-
-append-hex-requires-2 : tie.Need-append-hex-requires-2
-append-hex-requires-2 c κs = search needs
-
-slice-aggregate-append-3 : tie.Need-slice-aggregate-append-3
-slice-aggregate-append-3 c = search needs
-
-append-requires-3 : tie.Need-append-requires-3
-append-requires-3 c κs = search needs
-
-append-hex-requires-3 : tie.Need-append-hex-requires-3
-append-hex-requires-3 c κs = search needs
-
-slice-aggregate-append-4 : tie.Need-slice-aggregate-append-4
-slice-aggregate-append-4 c = search needs
-
-append-requires-4 : tie.Need-append-requires-4
-append-requires-4 c κs = search needs
-
 returns : tie.Need-returns
 unfolding registers
 returns c =
@@ -66,15 +33,15 @@ pub registers-spec : {M : Type 1} → statement M
 registers-spec =
     tie.close
     (tie.spec
-    slice-aggregate-append
-    append-requires
-    append-hex-requires
-    slice-aggregate-append-2
-    append-requires-2
-    append-hex-requires-2
-    slice-aggregate-append-3
-    append-requires-3
-    append-hex-requires-3
-    slice-aggregate-append-4
-    append-requires-4
+    (λ c. search needs)
+    (λ c κs. search needs)
+    (λ c κs. search needs)
+    (λ c. search needs)
+    (λ c κs. search needs)
+    (λ c κs. search needs)
+    (λ c. search needs)
+    (λ c κs. search needs)
+    (λ c κs. search needs)
+    (λ c. search needs)
+    (λ c κs. search needs)
     returns)

@@ -8,12 +8,6 @@ use Rattle.replay_files.proofs.pins.record_count.Tie as tie
 returns : tie.Need-returns
 returns c = (omega arith, rw (records-length (c .before .args .file .now)) (omega arith))
 
-sub-if2 : tie.Need-sub-if2
-sub-if2 c = search needs
-
-sub-result : tie.Need-sub-result
-sub-result c = search needs
-
 returns-2 : tie.Need-returns-2
 returns-2 c = (omega arith, rw (records-length (c .before .before .args .file .now)) (omega arith))
 
@@ -21,4 +15,4 @@ returns-3 : tie.Need-returns-3
 returns-3 c = (omega arith, rw (records-length (c .before .before .args .file .now)) (omega arith))
 
 pub record-count-spec : {M : Type 1} → statement M
-record-count-spec = tie.close (tie.spec returns sub-if2 sub-result returns-2 returns-3)
+record-count-spec = tie.close (tie.spec returns (λ c. search needs) (λ c. search needs) returns-2 returns-3)

@@ -18,9 +18,6 @@ Inv-loop file records₀ n i₀ records i =
 abbrev μ-loop : tie.MeasureT-loop
 μ-loop file records₀ n i₀ records i = n - i
 
-record-count-requires : tie.Need-record-count-requires Inv-loop μ-loop
-record-count-requires c κs = search needs
-
 loop-holds : tie.Need-loop-holds Inv-loop μ-loop
 loop-holds c =
     let count = c .record-count .ensures .1 in
@@ -52,9 +49,6 @@ add-word-3 c = omega arith
 
 shared-slice-read-word-4 : tie.Need-shared-slice-read-word-4 Inv-loop μ-loop
 shared-slice-read-word-4 c = omega arith
-
-word-requires : tie.Need-word-requires Inv-loop μ-loop
-word-requires c κs = search needs
 
 mul-records : tie.Need-mul-records Inv-loop μ-loop
 mul-records c = omega arith
@@ -90,7 +84,7 @@ records-spec =
     (tie.spec
     Inv-loop
     μ-loop
-    record-count-requires
+    (λ c κs. search needs)
     loop-holds
     mul-at
     add-at
@@ -101,7 +95,7 @@ records-spec =
     shared-slice-read-word-3
     add-word-3
     shared-slice-read-word-4
-    word-requires
+    (λ c κs. search needs)
     mul-records
     array-write-records
     add-i

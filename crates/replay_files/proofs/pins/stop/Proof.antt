@@ -9,19 +9,10 @@ use Rattle.replay_files.proofs.pins.stop.Tie as tie
 returns : tie.Need-returns
 returns c = sym (stop-none _ (omega arith))
 
-shared-slice-read-word : tie.Need-shared-slice-read-word
-shared-slice-read-word c = search needs
-
-shared-slice-read-word-2 : tie.Need-shared-slice-read-word-2
-shared-slice-read-word-2 c = search needs
-
-word-requires : tie.Need-word-requires
-word-requires c κs = search needs
-
 returns-2 : tie.Need-returns-2
 returns-2 c = c .word .ensures ∙ stop-some (c .before .before .before .before .before .args .file .now) (omega arith) (omega (arith, c .before .before .shared-slice-known2 .given 2)) (omega (arith, c .before .shared-slice-known3 .given 3))
 
 pub stop-spec : {M : Type 1} → statement M
 stop-spec =
     tie.close
-    (tie.spec returns shared-slice-read-word shared-slice-read-word-2 word-requires returns-2)
+    (tie.spec returns (λ c. search needs) (λ c. search needs) (λ c κs. search needs) returns-2)

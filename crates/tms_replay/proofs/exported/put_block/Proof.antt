@@ -5,14 +5,8 @@ use borrow.Author.Needs.{needs}
 use Rattle.tms_replay.proofs.exported.put_block.Statement.{statement}
 use Rattle.tms_replay.proofs.exported.put_block.Tie as tie
 
-slice-write-block : tie.Need-slice-write-block
-slice-write-block c = search needs
-
-same-length : tie.Need-same-length
-same-length c = search needs
-
 returns : tie.Need-returns
 returns c = stored (c .args .number ∷ []) (c .args .block .now) (c .pre)
 
 pub put-block-spec : {M : Type 1} → statement M
-put-block-spec = tie.close (tie.spec slice-write-block same-length returns)
+put-block-spec = tie.close (tie.spec (λ c. search needs) (λ c. search needs) returns)

@@ -5,17 +5,8 @@ use borrow.Author.Needs.{needs}
 use Rattle.tms_replay.proofs.exported.put_counts.Statement.{statement}
 use Rattle.tms_replay.proofs.exported.put_counts.Tie as tie
 
-slice-write-counts : tie.Need-slice-write-counts
-slice-write-counts c = search needs
-
-slice-write-counts-2 : tie.Need-slice-write-counts-2
-slice-write-counts-2 c = search needs
-
-same-length : tie.Need-same-length
-same-length c = search needs
-
 returns : tie.Need-returns
 returns c = stored (c .args .steps ∷ c .args .unassigned ∷ []) (c .args .counts .now) (c .pre)
 
 pub put-counts-spec : {M : Type 1} → statement M
-put-counts-spec = tie.close (tie.spec slice-write-counts slice-write-counts-2 same-length returns)
+put-counts-spec = tie.close (tie.spec (λ c. search needs) (λ c. search needs) (λ c. search needs) returns)

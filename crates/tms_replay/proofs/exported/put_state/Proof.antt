@@ -7,18 +7,6 @@ use borrow.Author.Needs.{needs}
 use Rattle.tms_replay.proofs.exported.put_state.Statement.{statement}
 use Rattle.tms_replay.proofs.exported.put_state.Tie as tie
 
-slice-write-words : tie.Need-slice-write-words
-slice-write-words c = search needs
-
-slice-write-words-2 : tie.Need-slice-write-words-2
-slice-write-words-2 c = search needs
-
-slice-write-words-3 : tie.Need-slice-write-words-3
-slice-write-words-3 c = search needs
-
-slice-write-words-4 : tie.Need-slice-write-words-4
-slice-write-words-4 c = search needs
-
 slice-write-words-5 : tie.Need-slice-write-words-5
 slice-write-words-5 c = simp (length-set, c .before .pre) (lit< tt)
 
@@ -43,9 +31,6 @@ slice-write-words-11 c = simp (length-set, c .before .pre) (lit< tt)
 slice-write-words-12 : tie.Need-slice-write-words-12
 slice-write-words-12 c = simp (length-set, c .before .pre) (lit< tt)
 
-same-length : tie.Need-same-length
-same-length c = search needs
-
 returns : tie.Need-returns
 unfolding fields
 returns c = stored (fields (c .before .args .state)) (c .before .args .words .now) (c .before .pre)
@@ -54,10 +39,10 @@ pub put-state-spec : {M : Type 1} → statement M
 put-state-spec =
     tie.close
     (tie.spec
-    slice-write-words
-    slice-write-words-2
-    slice-write-words-3
-    slice-write-words-4
+    (λ c. search needs)
+    (λ c. search needs)
+    (λ c. search needs)
+    (λ c. search needs)
     slice-write-words-5
     slice-write-words-6
     slice-write-words-7
@@ -66,5 +51,5 @@ put-state-spec =
     slice-write-words-10
     slice-write-words-11
     slice-write-words-12
-    same-length
+    (λ c. search needs)
     returns)

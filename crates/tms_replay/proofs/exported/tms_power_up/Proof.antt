@@ -11,18 +11,6 @@ returns c =
     let no = ne-eqb _ _ (c .if1 .taken) in
     (rw no, (rw no, rw no))
 
-power-up-requires : tie.Need-power-up-requires
-power-up-requires c κs = search needs
-
-put-state-requires : tie.Need-put-state-requires
-put-state-requires c κs = search needs
-
-same-length : tie.Need-same-length
-same-length c = search needs
-
-same-length-2 : tie.Need-same-length-2
-same-length-2 c = search needs
-
 returns-2 : tie.Need-returns-2
 unfolding power-up
 returns-2 c =
@@ -33,4 +21,4 @@ returns-2 c =
 pub tms-power-up-spec : {M : Type 1} → statement M
 tms-power-up-spec =
     tie.close
-    (tie.spec returns power-up-requires put-state-requires same-length same-length-2 returns-2)
+    (tie.spec returns (λ c κs. search needs) (λ c κs. search needs) (λ c. search needs) (λ c. search needs) returns-2)

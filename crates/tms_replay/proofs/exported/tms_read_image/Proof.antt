@@ -18,24 +18,6 @@ returns-2 c =
     let no = ne-eqb _ _ (c .if2 .taken) in
     (rw (yes, no), (rw (yes, no), (rw (yes, no), rw (yes, no))))
 
-read-image-requires : tie.Need-read-image-requires
-read-image-requires c κs = search needs
-
-put-state-requires : tie.Need-put-state-requires
-put-state-requires c κs = search needs
-
-put-block-requires : tie.Need-put-block-requires
-put-block-requires c κs = search needs
-
-same-length : tie.Need-same-length
-same-length c = search needs
-
-same-length-2 : tie.Need-same-length-2
-same-length-2 c = search needs
-
-same-length-3 : tie.Need-same-length-3
-same-length-3 c = search needs
-
 returns-3 : tie.Need-returns-3
 unfolding read
 returns-3 c =
@@ -58,10 +40,10 @@ tms-read-image-spec =
     (tie.spec
     returns
     returns-2
-    read-image-requires
-    put-state-requires
-    put-block-requires
-    same-length
-    same-length-2
-    same-length-3
+    (λ c κs. search needs)
+    (λ c κs. search needs)
+    (λ c κs. search needs)
+    (λ c. search needs)
+    (λ c. search needs)
+    (λ c. search needs)
     returns-3)

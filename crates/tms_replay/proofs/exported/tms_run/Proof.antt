@@ -18,27 +18,6 @@ returns-2 c =
     let no = ne-eqb _ _ (c .if2 .taken) in
     (rw (yes, no), (rw (yes, no), (rw (yes, no), rw (yes, no))))
 
-state-of-requires : tie.Need-state-of-requires
-state-of-requires c κs = search needs
-
-run-requires : tie.Need-run-requires
-run-requires c κs = search needs
-
-put-state-requires : tie.Need-put-state-requires
-put-state-requires c κs = search needs
-
-put-counts-requires : tie.Need-put-counts-requires
-put-counts-requires c κs = search needs
-
-same-length : tie.Need-same-length
-same-length c = search needs
-
-same-length-2 : tie.Need-same-length-2
-same-length-2 c = search needs
-
-same-length-3 : tie.Need-same-length-3
-same-length-3 c = search needs
-
 returns-3 : tie.Need-returns-3
 unfolding run
 returns-3 c =
@@ -62,11 +41,11 @@ tms-run-spec =
     (tie.spec
     returns
     returns-2
-    state-of-requires
-    run-requires
-    put-state-requires
-    put-counts-requires
-    same-length
-    same-length-2
-    same-length-3
+    (λ c κs. search needs)
+    (λ c κs. search needs)
+    (λ c κs. search needs)
+    (λ c κs. search needs)
+    (λ c. search needs)
+    (λ c. search needs)
+    (λ c. search needs)
     returns-3)

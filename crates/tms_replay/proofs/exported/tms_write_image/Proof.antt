@@ -11,15 +11,6 @@ returns c =
     let no = ne-eqb _ _ (c .if1 .taken) in
     (rw no, rw no)
 
-state-of-requires : tie.Need-state-of-requires
-state-of-requires c κs = search needs
-
-write-image-requires : tie.Need-write-image-requires
-write-image-requires c κs = search needs
-
-same-length : tie.Need-same-length
-same-length c = search needs
-
 returns-2 : tie.Need-returns-2
 unfolding write
 returns-2 c =
@@ -30,4 +21,4 @@ returns-2 c =
 
 pub tms-write-image-spec : {M : Type 1} → statement M
 tms-write-image-spec =
-    tie.close (tie.spec returns state-of-requires write-image-requires same-length returns-2)
+    tie.close (tie.spec returns (λ c κs. search needs) (λ c κs. search needs) (λ c. search needs) returns-2)
