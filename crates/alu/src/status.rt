@@ -6,6 +6,21 @@ ghost use Rattle.alu.specs.Status as Status;
 use isa::JumpOp;
 use memory::Width;
 
+// The status bits' numbers.
+pub const LOGICAL_GREATER: u32 = 15;
+
+pub const ARITHMETIC_GREATER: u32 = 14;
+
+pub const EQUAL: u32 = 13;
+
+pub const CARRY: u32 = 12;
+
+pub const OVERFLOW: u32 = 11;
+
+pub const ODD_PARITY: u32 = 10;
+
+pub const EXTENDED: u32 = 9;
+
 // How many values a width has.
 pub fn modulus(width: Width) -> u32
     ensures { λ r. ⌜ r ≡ Memory.modulus width ⌝ }

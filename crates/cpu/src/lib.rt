@@ -21,6 +21,9 @@ use machine::State;
 use machine::bus;
 use memory::Width;
 
+// How many X one step may execute; the ninth is read as an unassigned word.
+pub const ALLOWANCE: u16 = 8;
+
 // What an executed word was, and the state after it.
 pub struct Executed {
     pub deed: Deed,

@@ -1,5 +1,6 @@
 -- A run of steps, power up, and when the two calls refuse.
 use Prim.Native.Nat.{ℕ, zero, suc, _+_}
+use mathlib.Core.Path.{_≡_}
 use mathlib.Core.Bool.{Bool, true, false, not}
 use mathlib.Core.List.{List, [], _∷_}
 use lib.ListN.{length}
@@ -80,6 +81,11 @@ run m s records steps stop =
 
     refused : RunResult
     refused = record { answer = record { number = run-refusal m s records steps; state = s; steps = 0; unassigned = 0 }; memory = m }
+
+-- What a call of run promises: its answer and the memory after it are these.
+abbrev pub Promised : List ℕ → State → List ℕ → ℕ → ℕ → RunAnswer → List ℕ → Type 0
+Promised m s records steps stop answer after =
+    record { answer = answer; memory = after } ≡ run m s records steps stop
 
 -- Power up refuses a memory of another size, with the blank state.
 unfoldable pub power-up-refusal : List ℕ → ℕ

@@ -47,6 +47,11 @@ pub enum Kind {
 }
 
 impl State {
+    // The bits of `flags`.
+    pub const IDLE: u32 = 0;
+
+    pub const NO_SAMPLE: u32 = 1;
+
     // All fields 0.
     pub fn blank() -> Self
         ensures { λ r. ⌜ r ≡ Own.blank ⌝ }

@@ -3,6 +3,9 @@ ghost use mathlib.Core.Path.{_≡_};
 ghost use Prim.Native.Nat.{_+_, _*_};
 ghost use Rattle.memory.specs.Memory as Memory;
 
+// How many bytes the memory has.
+pub const SIZE: usize = 16384;
+
 // The width of an operand.
 pub enum Width {
     Byte,

@@ -32,6 +32,8 @@ impl Psi {
     pub const CLOCK_LARGEST: u16 = 16383;
     // Cycles of one tick.
     pub const TICK_CYCLES: u16 = 64;
+    // The words that hold a PSI in an image, one a field.
+    pub const WORDS: usize = 8;
 
     // All fields 0.
     pub fn blank() -> Self
