@@ -14,4 +14,4 @@ unfolding shift
 returns-2 c = rw (le-ltb _ 0x0C00 (c .if1 .left))
 
 pub shift-spec : {M : Type 1} → statement M
-shift-spec = tie.close (tie.spec (λ c κs. search needs) returns returns-2)
+shift-spec = tie.close (tie.spec (λ c. search needs) (λ c κs. search needs) returns returns-2)

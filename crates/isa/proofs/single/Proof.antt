@@ -24,4 +24,4 @@ returns-4 c = rw (le-ltb _ 0x0780 (c .if1 .left))
 
 pub single-spec : {M : Type 1} → statement M
 single-spec =
-    tie.close (tie.spec (λ c κs. search needs) (λ c κs. search needs) returns returns-2 returns-3 returns-4)
+    tie.close (tie.spec (λ c κs. search needs) (λ c. search needs) (λ c κs. search needs) returns returns-2 returns-3 returns-4)

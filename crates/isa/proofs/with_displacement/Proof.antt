@@ -14,4 +14,4 @@ unfolding with-displacement
 returns-2 c = rw (le-ltb _ 0x1D00 (c .before .if1 .left), c .bit-operation .ensures)
 
 pub with-displacement-spec : {M : Type 1} → statement M
-with-displacement-spec = tie.close (tie.spec (λ c κs. search needs) (λ c κs. search needs) returns returns-2)
+with-displacement-spec = tie.close (tie.spec (λ c. search needs) (λ c κs. search needs) (λ c κs. search needs) returns returns-2)

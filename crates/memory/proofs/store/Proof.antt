@@ -33,7 +33,6 @@ store-spec =
     (λ c. search needs)
     (λ c. search needs)
     (λ c. search needs)
-    (λ c. search needs)
     slice-write-memory-3
     (λ c. search needs)
     returns
