@@ -1,7 +1,7 @@
 -- The claim: what one step keeps, the steps of a call keep, by induction on them; a refused call has no steps and changes
 -- nothing; and what was observed of a call is what the rules give, so the calls of a list keep it one after the other.
 use Prim.Native.Nat.{ℕ, zero, suc}
-use mathlib.Core.Path.{_≡_, refl}
+use mathlib.Core.Path.{_≡_, refl, ap}
 use mathlib.Core.Bool.{Bool, true, false, not}
 use mathlib.Core.List.{List, [], _∷_}
 use native.Mathlib.Omega.{arith}
@@ -13,7 +13,7 @@ use Rattle.memory.specs.Memory.{size}
 use Rattle.machine.specs.declared.State.{State}
 use Rattle.machine.specs.State.{Machine, at, well-formed}
 use Rattle.machine.specs.Step.{step}
-use Rattle.machine.specs.Run.{runs, run, run-refusal}
+use Rattle.machine.specs.Run.{runs, run, run-refusal, RunResult}
 use Rattle.machine.specs.Laws.{Words}
 use Rattle.machine.proofs.Laws.{form}
 use Rattle.book.specs.Book.{Book, turn, event, Moment, moment, moments, book-after, Call, call-moments, call-machine, all-moments}
@@ -106,7 +106,7 @@ no-refusal true false c e = absurd (omega arith)
 no-refusal false b c e = absurd (omega arith)
 
 accepted-sound :
-    (m : Machine) (records : List ℕ) (steps : ℕ) → Words (m .state) → run-refusal (m .memory) (m .state) records steps ≡ 0 → Sound m
+    (m : Machine) (records : List ℕ) (steps : ℕ) → Words (m .state) → run-refusal (length (m .memory)) (m .state) (length records) steps ≡ 0 → Sound m
 unfolding run-refusal
 accepted-sound m records steps h e =
     let q = no-refusal (eqb (length (m .memory)) size) (well-formed (m .state)) (ltb (length records) steps) e in
@@ -117,14 +117,14 @@ accepted-sound m records steps h e =
 
 module _ (m : Machine) (b : Book) (c : Call) where
   accepted :
-      eqb (run-refusal (m .memory) (m .state) (c .records) (c .steps)) 0 ≡ true
+      eqb (run-refusal (length (m .memory)) (m .state) (length (c .records)) (c .steps)) 0 ≡ true
       → (call-moments m b c ≡ moments (c .stop) (c .steps) (c .records) m b)
       × (call-machine m c ≡ runs (c .stop) (c .steps) (c .records) m .machine)
   unfolding call-moments call-machine run
   accepted e = (rw e, rw e)
 
   refused :
-      eqb (run-refusal (m .memory) (m .state) (c .records) (c .steps)) 0 ≡ false
+      eqb (run-refusal (length (m .memory)) (m .state) (length (c .records)) (c .steps)) 0 ≡ false
       → (call-moments m b c ≡ []) × (call-machine m c ≡ m)
   unfolding call-moments call-machine run
   refused e = (rw e, rw e)
@@ -136,7 +136,7 @@ call-through :
 call-through m b c h g e = by-test (eqb refusal 0) refl
   where
     refusal : ℕ
-    refusal = run-refusal (m .memory) (m .state) (c .records) (c .steps)
+    refusal = run-refusal (length (m .memory)) (m .state) (length (c .records)) (c .steps)
 
     by-test : (t : Bool) → eqb refusal 0 ≡ t → Through (λ s. Unit) b (call-moments m b c) (call-machine m c)
     by-test true t =
@@ -161,11 +161,13 @@ all-through m b (x ∷ xs) h g c e =
     let later : List Moment = all-moments (call-machine m (x .call)) (book-after b steps) (calls xs) in
     let es = each-split Respected steps later e in
     let t = call-through m b (x .call) h g (es .0) in
-    let r = all-through (call-machine m (x .call)) (book-after b steps) xs (t .words) (t .good) (rw (c .0, c .1) at (c .2)) (es .1) in (
+    let answered = ap (λ (z : RunResult). z .answer) (c .0) in
+    let left = ap (λ (z : RunResult). z .memory) (c .0) in
+    let r = all-through (call-machine m (x .call)) (book-after b steps) xs (t .words) (t .good) (rw (answered, left) at (c .1)) (es .1) in (
       each-append Kept steps later (t .kept) (r .0),
       (
-        rw (c .1) (each-map (λ n k. k .stands) (book-after b steps) (t .good)),
-        rw (c .0) (last-given-back _ steps _ (t .last)),
+        rw left (each-map (λ n k. k .stands) (book-after b steps) (t .good)),
+        rw answered (last-given-back _ steps _ (t .last)),
         r .1,
       ),
     )

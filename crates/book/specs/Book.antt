@@ -3,6 +3,7 @@ use Prim.Native.Nat.{ℕ, zero, suc, _+_, _*_, _%_}
 use mathlib.Core.Bool.{true, false}
 use mathlib.Core.List.{List, [], _∷_, _++_}
 use lib.Dec.{eqb}
+use lib.ListN.{length}
 use Rattle.bits.specs.Bits.{if_then_else_}
 use Rattle.memory.specs.declared.Width.the-variants.{Word}
 use Rattle.memory.specs.Memory.{touched}
@@ -111,7 +112,7 @@ pub record Call : Type 0 where
 -- the steps of one call: none if it is refused
 unfoldable pub call-moments : Machine → Book → Call → List Moment
 call-moments m b c =
-    if eqb (run-refusal (m .memory) (m .state) (c .records) (c .steps)) 0
+    if eqb (run-refusal (length (m .memory)) (m .state) (length (c .records)) (c .steps)) 0
     then moments (c .stop) (c .steps) (c .records) m b
     else []
 

@@ -10,7 +10,7 @@ use Rattle.machine.specs.declared.RunAnswer.{RunAnswer}
 use Rattle.machine.specs.State.{Machine, at}
 use Rattle.machine.specs.Laws.{Words}
 use Rattle.machine.specs.Operands.{register-at}
-use Rattle.machine.specs.Run.{run}
+use Rattle.machine.specs.Run.{Promised}
 use Rattle.book.specs.Book.{Note, Book, Event, opened, returned, cleared, other, turn, Moment, Call, call-moments, call-machine, book-after, all-moments, save-places}
 
 -- what was observed of a call: its arguments, its answer, and the lent memory after it
@@ -23,12 +23,11 @@ unfoldable pub calls : List Seen → List Call
 calls [] = []
 calls (x ∷ xs) = x .call ∷ calls xs
 
--- each call meets run's contract from the state and the memory that the one before it left
+-- each call keeps what run promises, which is the contract of the code's `run`, from the state and the memory that the one before it left
 unfoldable pub Chained : State → List ℕ → List Seen → Type 0
 Chained s m [] = Unit
 Chained s m (x ∷ xs) =
-    (x .answer ≡ run m s (x .call .records) (x .call .steps) (x .call .stop) .answer)
-    × (x .memory ≡ run m s (x .call .records) (x .call .steps) (x .call .stop) .memory)
+    Promised m s (x .call .records) (x .call .steps) (x .call .stop) (x .answer) (x .memory)
     × Chained (x .answer .state) (x .memory) xs
 
 -- something holds of each element

@@ -69,9 +69,9 @@ fn run_steps(bytes: &mut [u8], state: State, records: &[u32], steps: usize, stop
 
 // The refusal of a run: 1 memory's size, 2 the state, 3 more steps than records.
 fn run_refusal(size: usize, state: State, records: usize, steps: usize) -> u16
-    ensures { λ r. ⌜ r ≡ Runs.refusal size state records steps ⌝ }
+    ensures { λ r. ⌜ r ≡ Run.run-refusal size state records steps ⌝ }
 {
-    if size != 16384 {
+    if size != memory::SIZE {
         return 1;
     }
     if !state.well_formed() {
@@ -85,8 +85,7 @@ fn run_refusal(size: usize, state: State, records: usize, steps: usize) -> u16
 
 // Runs at most `steps` steps on the records, up to the stop address.
 pub fn run(bytes: &mut [u8], state: State, records: &[u32], steps: usize, stop: u16) -> RunAnswer
-    ensures { λ r. ⌜ r ≡ Run.run (now (bytes .entry)) state (now (records .entry)) steps stop .answer ⌝ }
-    ensures { λ r. ⌜ now (bytes .exit) ≡ Run.run (now (bytes .entry)) state (now (records .entry)) steps stop .memory ⌝ }
+    ensures { λ r. ⌜ Run.Promised (now (bytes .entry)) state (now (records .entry)) steps stop r (now (bytes .exit)) ⌝ }
 {
     let refusal = run_refusal(bytes.len(), state, records.len(), steps);
     if refusal != 0 {
@@ -106,7 +105,7 @@ pub fn power_up(bytes: &mut [u8]) -> StateAnswer
     ensures { λ r. ⌜ now (bytes .exit) ≡ Run.power-up (now (bytes .entry)) .memory ⌝ }
 {
     let blank = State::blank();
-    if bytes.len() != 16384 {
+    if bytes.len() != memory::SIZE {
         return StateAnswer {
             number: 1,
             state: blank,
