@@ -83,6 +83,15 @@ accepted bytes s records steps e =
     let p = passed (eqb bytes size) (well-formed s) (ltb records steps) e in
     (eqb-true _ _ (p .0), ltb-false _ _ (p .1))
 
+-- the same of power up
+passed-alone : (x : Bool) → _≡_ {A = ℕ} (if not x then 1 else 0) 0 → x ≡ true
+passed-alone true e = refl
+passed-alone false e = absurd (omega arith)
+
+pub accepted-alone : (bytes : ℕ) → power-up-refusal bytes ≡ 0 → bytes ≡ size
+unfolding power-up-refusal
+accepted-alone bytes e = eqb-true _ _ (passed-alone (eqb bytes size) e)
+
 -- an accepted run answers what its steps lead to
 pub ran-to : (m : List ℕ) (s : State) (rs : List ℕ) (n stop : ℕ) (r : RunAnswer) (x : List ℕ)
     → run-refusal (length m) s (length rs) n ≡ 0 → runs stop n rs (at s m) ≡ ended r x → r .number ≡ 0
@@ -92,7 +101,7 @@ ran-to m s rs n stop r x e h z = rw (eq-eqb _ _ e, h, ← z)
 
 -- power up is the reset entry of the blank state
 pub powered : (m : List ℕ) (s : State) (x : List ℕ)
-    → length m ≡ size → perform 0 (boundary reset) (at blank m) .machine ≡ at s x
+    → power-up-refusal (length m) ≡ 0 → perform 0 (boundary reset) (at blank m) .machine ≡ at s x
     → power-up m ≡ record { answer = record { number = 0; state = s }; memory = x }
-unfolding power-up power-up-refusal
+unfolding power-up
 powered m s x e h = rw (eq-eqb _ _ e, h)
