@@ -5,8 +5,8 @@ use mathlib.Core.Path.{_≡_}
 use mathlib.Core.List.{List, [], _∷_}
 use Rattle.machine.specs.State.{Machine, at}
 use Rattle.machine.specs.Cases.{Poke, poked, never, quiet, zeros}
 use Rattle.book.specs.Book.{Note, Book, turn, Moment, Call, all-moments}
-use Rattle.book.specs.Claim.{Each, Respected}
+use Rattle.book_claim.specs.Claim.{Each, Respected}
 
 abbrev word : ℕ → ℕ → Poke
 word a x = record { at = a; word = x }

@@ -19,12 +19,12 @@ use Rattle.machine.specs.declared.Signal.{Signal}
 use Rattle.machine.specs.declared.Signal.the-variants.{Reset as reset, Load as load, Nothing as none, Level as level}
 use Rattle.machine.specs.Step.{signal, admitted, enter, proceed, boundary, clocked, stepping, step}
 use Rattle.machine.proofs.Laws.{Form, keeps-form}
 use Rattle.book.specs.Book.{step-accesses}
-use Rattle.book.specs.Claim.{Stands}
-use Rattle.book.proofs.Steady.{Steady, registers-steady, fetched-steady}
-use Rattle.book.proofs.Does.{Fit, fit-kept, Judgement, Does, Movable, after-steady, then-done, does-if}
-use Rattle.book.proofs.Switch.{noted, enter-saves}
-use Rattle.book.proofs.Execute.{Meant, meant-movable, executed}
+use Rattle.book_claim.specs.Claim.{Stands}
+use Rattle.book_claim.proofs.Steady.{Steady, registers-steady, fetched-steady}
+use Rattle.book_claim.proofs.Does.{Fit, fit-kept, Judgement, Does, Movable, after-steady, then-done, does-if}
+use Rattle.book_claim.proofs.Switch.{noted, enter-saves}
+use Rattle.book_claim.proofs.Execute.{Meant, meant-movable, executed}
 
 -- what a step of each kind has done
 unfoldable pub Meaning : Judgement Kind

@@ -19,10 +19,10 @@ use Rattle.machine.specs.Perform.{perform, accesses, fetches, even}
 use Rattle.machine.specs.Operands.{register-at, set-register, operand}
 use Rattle.machine.specs.Groups.{set-status, switch, switch-by-operand, switch-by-number}
 use Rattle.machine.specs.Step.{enter}
 use Rattle.book.specs.Book.{Note}
-use Rattle.book.specs.Claim.{Stands}
-use Rattle.book.proofs.Steady.{operand-steady}
-use Rattle.book.proofs.Does.{Judgement, Does, Movable, after-steady}
+use Rattle.book_claim.specs.Claim.{Stands}
+use Rattle.book_claim.proofs.Steady.{operand-steady}
+use Rattle.book_claim.proofs.Does.{Judgement, Does, Movable, after-steady}
 
 -- two words at places apart have no byte in common
 words-apart : (a b : ℕ) → (place Word a ≡ place Word b → ⊥) → disjoint (touched Word a) (touched Word b) ≡ true

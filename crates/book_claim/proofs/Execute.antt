@@ -18,10 +18,10 @@ use Rattle.machine.specs.Perform.{perform, accesses, fetches, even}
 use Rattle.machine.specs.Operands.{register-at, register, operand}
 use Rattle.machine.specs.Groups as G
 use Rattle.machine.specs.Execute.{command-deed, instruction, execute}
-use Rattle.book.specs.Claim.{Stands}
-use Rattle.book.proofs.Steady.{steady-bind, operand-steady, load-steady}
-use Rattle.book.proofs.Does.{Judgement, Does, Movable, after-steady, then-done}
-use Rattle.book.proofs.Switch.{noted, Saved, saved-movable, blwp-saves, xop-operand-saves}
+use Rattle.book_claim.specs.Claim.{Stands}
+use Rattle.book_claim.proofs.Steady.{steady-bind, operand-steady, load-steady}
+use Rattle.book_claim.proofs.Does.{Judgement, Does, Movable, after-steady, then-done}
+use Rattle.book_claim.proofs.Switch.{noted, Saved, saved-movable, blwp-saves, xop-operand-saves}
 
 -- WP, PC and ST were loaded from R13, R14 and R15 of a workspace
 pub record Taken (workspace : ℕ) (n : Machine) : Type 0 where

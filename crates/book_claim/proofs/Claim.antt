@@ -16,11 +16,11 @@ use Rattle.machine.specs.Step.{step}
 use Rattle.machine.specs.Run.{runs, run, run-refusal, RunResult}
 use Rattle.machine.specs.Laws.{Words}
 use Rattle.machine.proofs.Laws.{form}
 use Rattle.book.specs.Book.{Book, turn, event, Moment, moment, moments, book-after, Call, call-moments, call-machine, all-moments}
-use Rattle.book.specs.Claim.{Seen, calls, Chained, Each, Respected, Given-back, Kept, Last-given-back, Calls-kept, Open-entries-are-kept}
-use Rattle.book.proofs.Each.{each-map, each-split, each-append}
-use Rattle.book.proofs.Step.{Sound, step-sound}
-use Rattle.book.proofs.Kept.{Good, step-kept}
+use Rattle.book_claim.specs.Claim.{Seen, calls, Chained, Each, Respected, Given-back, Kept, Last-given-back, Calls-kept, Open-entries-are-kept}
+use Rattle.book_claim.proofs.Each.{each-map, each-split, each-append}
+use Rattle.book_claim.proofs.Step.{Sound, step-sound}
+use Rattle.book_claim.proofs.Kept.{Good, step-kept}
 
 -- what is claimed after the last of some steps, and P if there are none
 Last : (State → Type 0) → List Moment → State → Type 0

@@ -2,16 +2,16 @@
 use Prim.Native.Nat.{ℕ, _%_}
 use mathlib.Core.Path.{_≡_}
 use mathlib.Core.Bool.{true}
-use mathlib.Core.List.{List, [], _∷_}
+use mathlib.Core.List.{List, [], _∷_, _++_}
 use Rattle.memory.specs.declared.Width.the-variants.{Word}
-use Rattle.memory.specs.Memory.{size, loaded, disjoint}
+use Rattle.memory.specs.Memory.{size, loaded, touched, disjoint}
 use Rattle.machine.specs.declared.State.{State}
 use Rattle.machine.specs.declared.RunAnswer.{RunAnswer}
 use Rattle.machine.specs.State.{Machine, at}
 use Rattle.machine.specs.Laws.{Words}
 use Rattle.machine.specs.Operands.{register-at}
 use Rattle.machine.specs.Run.{Promised}
-use Rattle.book.specs.Book.{Note, Book, Event, opened, returned, cleared, other, turn, Moment, Call, call-moments, call-machine, book-after, all-moments, save-places}
+use Rattle.book.specs.Book.{Note, Book, Event, opened, returned, cleared, other, turn, Moment, Call, call-moments, call-machine, book-after, all-moments}
 
 -- what was observed of a call: its arguments, its answer, and the lent memory after it
 pub record Seen : Type 0 where
@@ -34,6 +34,12 @@ Chained s m (x ∷ xs) =
 unfoldable pub Each : {A : Type 0} → (A → Type 0) → List A → Type 0
 Each P [] = Unit
 Each P (x ∷ xs) = P x × Each P xs
+
+-- the places of an entry's save words: R13 to R15 at its new WP
+unfoldable pub save-places : Note → List ℕ
+save-places n =
+    touched Word (register-at (n .workspace) 13)
+    ++ (touched Word (register-at (n .workspace) 14) ++ touched Word (register-at (n .workspace) 15))
 
 -- A step stores into no save word of an entry that was open before it; a reset closes every entry, so it is free.
 unfoldable pub Avoided : Event → Book → List ℕ → Type 0

@@ -1,6 +1,6 @@
 -- What holds of each element of a list, by induction on the list.
 use mathlib.Core.List.{List, [], _∷_, _++_}
-use Rattle.book.specs.Claim.{Each}
+use Rattle.book_claim.specs.Claim.{Each}
 
 pub each-map : {A : Type 0} {P Q : A → Type 0} → ((x : A) → P x → Q x) → (xs : List A) → Each P xs → Each Q xs
 unfolding Each

@@ -11,7 +11,7 @@ use Rattle.machine.specs.Perform.{perform, accesses, fetches}
 use Rattle.machine.specs.Laws.{Words}
 use Rattle.machine.proofs.Bind.{perform-bind, accesses-bind}
 use Rattle.machine.proofs.Laws.{keeps-the-length, keeps-words}
-use Rattle.book.proofs.Steady.{Steady, Held, held, fetches-append}
+use Rattle.book_claim.proofs.Steady.{Steady, Held, held, fetches-append}
 
 -- the memory is installed and every field has 16 bits
 pub record Fit (m : Machine) : Type 0 where

@@ -18,12 +18,12 @@ use Rattle.machine.specs.declared.Kind.{Kind}
 use Rattle.machine.specs.declared.Kind.the-variants.{Reset as was-reset, Load as was-load, Idle as was-idle, Level as was-level, Ran as ran}
 use Rattle.machine.specs.Step.{clocked, stepping, step}
 use Rattle.machine.proofs.Laws.{keeps-the-rest}
-use Rattle.book.specs.Book.{Note, Book, Event, opened, returned, cleared, other, turn, note, step-accesses, event-of, event, moment, save-places}
-use Rattle.book.specs.Claim.{Each, Avoided, In-workspace, Respected, Stands, Restored, Given-back, Kept}
-use Rattle.book.proofs.Each.{each-map, each-zip}
-use Rattle.book.proofs.Switch.{noted}
-use Rattle.book.proofs.Execute.{Taken, Meant}
-use Rattle.book.proofs.Step.{Meaning, step-means, Sound}
+use Rattle.book.specs.Book.{Note, Book, Event, opened, returned, cleared, other, turn, note, step-accesses, event-of, event, moment}
+use Rattle.book_claim.specs.Claim.{save-places, Each, Avoided, In-workspace, Respected, Stands, Restored, Given-back, Kept}
+use Rattle.book_claim.proofs.Each.{each-map, each-zip}
+use Rattle.book_claim.proofs.Switch.{noted}
+use Rattle.book_claim.proofs.Execute.{Taken, Meant}
+use Rattle.book_claim.proofs.Step.{Meaning, step-means, Sound}
 
 -- what is noted could be a machine's: WP and PC are even, and all three have 16 bits
 pub record Proper (n : Note) : Type 0 where
