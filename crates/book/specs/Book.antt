@@ -3,14 +3,12 @@ use Prim.Native.Nat.{ℕ, zero, suc, _+_, _*_, _%_}
 use mathlib.Core.Bool.{true, false}
 use mathlib.Core.List.{List, [], _∷_, _++_}
 use lib.Dec.{eqb}
+use lib.ListN.{length}
 use Rattle.bits.specs.Bits.{if_then_else_}
-use Rattle.memory.specs.declared.Width.the-variants.{Word}
-use Rattle.memory.specs.Memory.{touched}
 use Rattle.psi.specs.Pins.{parted}
 use Rattle.machine.specs.declared.Deed.the-variants.{Ordinary, Unassigned, Switched, Returned}
 use Rattle.machine.specs.State.{Machine, at}
 use Rattle.machine.specs.Perform.{Access, accesses, fetches, written}
-use Rattle.machine.specs.Operands.{register-at}
 use Rattle.machine.specs.declared.Kind.{Kind}
 use Rattle.machine.specs.declared.Kind.the-variants.{Reset as was-reset, Load as was-load, Idle as was-idle, Level as was-level, Ran as ran}
 use Rattle.machine.specs.Step.{clocked, stepping, step}
@@ -111,7 +109,7 @@ pub record Call : Type 0 where
 -- the steps of one call: none if it is refused
 unfoldable pub call-moments : Machine → Book → Call → List Moment
 call-moments m b c =
-    if eqb (run-refusal (m .memory) (m .state) (c .records) (c .steps)) 0
+    if eqb (run-refusal (length (m .memory)) (m .state) (length (c .records)) (c .steps)) 0
     then moments (c .stop) (c .steps) (c .records) m b
     else []
 
@@ -126,9 +124,3 @@ unfoldable pub all-moments : Machine → Book → List Call → List Moment
 all-moments m b [] = []
 all-moments m b (c ∷ cs) =
     call-moments m b c ++ all-moments (call-machine m c) (book-after b (call-moments m b c)) cs
-
--- the places of an entry's save words: R13 to R15 at its new WP
-unfoldable pub save-places : Note → List ℕ
-save-places n =
-    touched Word (register-at (n .workspace) 13)
-    ++ (touched Word (register-at (n .workspace) 14) ++ touched Word (register-at (n .workspace) 15))

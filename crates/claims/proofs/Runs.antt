@@ -141,7 +141,7 @@ module _ (stop : ℕ) where
 -- a run that is refused, and one that is accepted
 pub refused-runs : Refused-runs
 unfolding run
-refused-runs m s records steps stop ne = rw (ne-eqb (run-refusal m s records steps) 0 ne)
+refused-runs m s records steps stop ne = rw (ne-eqb (run-refusal (length m) s (length records) steps) 0 ne)
 
 result : Ran → RunResult
 result x =
@@ -152,27 +152,27 @@ result x =
 
 accepted-runs :
     (m : List ℕ) (s : State) (records : List ℕ) (steps stop : ℕ)
-    → run-refusal m s records steps ≡ 0
+    → run-refusal (length m) s (length records) steps ≡ 0
     → run m s records steps stop ≡ result (runs stop steps records (at s m))
 unfolding run result
-accepted-runs m s records steps stop e = rw (eq-eqb (run-refusal m s records steps) 0 e)
+accepted-runs m s records steps stop e = rw (eq-eqb (run-refusal (length m) s (length records) steps) 0 e)
 
 pub accepted-exactly : Accepted-exactly
 unfolding run
 accepted-exactly m s records steps stop =
-    either-way (λ (r : RunResult). r .answer .number ≡ run-refusal m s records steps) (eqb (run-refusal m s records steps) 0)
+    either-way (λ (r : RunResult). r .answer .number ≡ run-refusal (length m) s (length records) steps) (eqb (run-refusal (length m) s (length records) steps) 0)
     (λ t. sym (eqb-true _ _ t)) (λ f. refl)
 
 pub steps-at-most : Steps-at-most
 unfolding run
 steps-at-most m s records steps stop =
-    either-way (λ (r : RunResult). (r .answer .steps ≤ steps) × (r .answer .unassigned ≤ r .answer .steps)) (eqb (run-refusal m s records steps) 0)
+    either-way (λ (r : RunResult). (r .answer .steps ≤ steps) × (r .answer .unassigned ≤ r .answer .steps)) (eqb (run-refusal (length m) s (length records) steps) 0)
     (λ t. runs-at-most stop steps records _) (λ f. omega arith)
 
 -- Where there are records enough, a machine is either fit, or every run of it is refused with one number.
 data Start (m : Machine) : Type 0 where
   fit : Fit m → Start m
-  unfit : (k : ℕ) → (k ≡ 0 → ⊥) → ((records : List ℕ) (steps : ℕ) → run-refusal (m .memory) (m .state) records steps ≡ k) → Start m
+  unfit : (k : ℕ) → (k ≡ 0 → ⊥) → ((records : List ℕ) (steps : ℕ) → run-refusal (length (m .memory)) (m .state) (length records) steps ≡ k) → Start m
 
 start : (m : Machine) → Start m
 unfolding run-refusal
@@ -185,7 +185,7 @@ start m = judged (eqb (length (m .memory)) size) (well-formed (m .state)) refl r
 
 fit-accepted :
     (m : Machine) (records : List ℕ) (steps : ℕ) → Fit m → steps ≤ length records
-    → run-refusal (m .memory) (m .state) records steps ≡ 0
+    → run-refusal (length (m .memory)) (m .state) (length records) steps ≡ 0
 unfolding run-refusal
 fit-accepted m records steps f h = rw (eq-eqb _ _ (f .sized), f .formed, le-ltb _ _ h)
 
@@ -194,14 +194,14 @@ module _ (m : Machine) (records : List ℕ) (a b stop : ℕ) (h : a + b ≤ leng
   In-parts =
       run (m .memory) (m .state) records (a + b) stop ≡ followed (run (m .memory) (m .state) records a stop) records b stop
 
-  in-parts-unfit : (k : ℕ) → (k ≡ 0 → ⊥) → ((rs : List ℕ) (steps : ℕ) → run-refusal (m .memory) (m .state) rs steps ≡ k) → In-parts
+  in-parts-unfit : (k : ℕ) → (k ≡ 0 → ⊥) → ((rs : List ℕ) (steps : ℕ) → run-refusal (length (m .memory)) (m .state) (length rs) steps ≡ k) → In-parts
   unfolding In-parts
   in-parts-unfit k ne all =
-      let refused : (rs : List ℕ) (n : ℕ) → run-refusal (m .memory) (m .state) rs n ≡ 0 → ⊥ = λ rs n e. ne (sym (all rs n) ∙ e) in
+      let refused : (rs : List ℕ) (n : ℕ) → run-refusal (length (m .memory)) (m .state) (length rs) n ≡ 0 → ⊥ = λ rs n e. ne (sym (all rs n) ∙ e) in
       rw (
-        refused-runs (m .memory) (m .state) records (a + b) stop (refused _ _),
-        refused-runs (m .memory) (m .state) records a stop (refused _ _),
-        refused-runs (m .memory) (m .state) records b stop (refused _ _),
+        refused-runs (m .memory) (m .state) records (a + b) stop (refused records (a + b)),
+        refused-runs (m .memory) (m .state) records a stop (refused records a),
+        refused-runs (m .memory) (m .state) records b stop (refused records b),
         all records (a + b),
         all records b,
       )
@@ -216,7 +216,7 @@ module _ (m : Machine) (records : List ℕ) (a b stop : ℕ) (h : a + b ≤ leng
         accepted-runs (m .memory) (m .state) records (a + b) stop (fit-accepted m records (a + b) f h),
         accepted-runs (m .memory) (m .state) records a stop (fit-accepted m records a f (omega arith)),
         accepted-runs (first .machine .memory) (first .machine .state) (drop (first .steps) records) b stop
-            (fit-accepted (first .machine) _ b (runs-fit stop a records m f) enough),
+            (fit-accepted (first .machine) (drop (first .steps) records) b (runs-fit stop a records m f) enough),
         runs-apart stop a records m b h,
       )
 
@@ -233,7 +233,7 @@ record Ready (m : Machine) (records : List ℕ) (steps : ℕ) : Type 0 where
   fits : Fit m
   enough : steps ≤ length records
 
-ready : (m : Machine) (records : List ℕ) (steps : ℕ) → run-refusal (m .memory) (m .state) records steps ≡ 0 → Ready m records steps
+ready : (m : Machine) (records : List ℕ) (steps : ℕ) → run-refusal (length (m .memory)) (m .state) (length records) steps ≡ 0 → Ready m records steps
 unfolding run-refusal
 ready m records steps e =
     elim (start m) [

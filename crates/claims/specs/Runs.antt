@@ -36,10 +36,10 @@ Runs-in-parts =
 abbrev pub Refused-runs : Type 0
 Refused-runs =
     (m : List ℕ) (s : State) (records : List ℕ) (steps stop : ℕ)
-    → (run-refusal m s records steps ≡ 0 → ⊥)
+    → (run-refusal (length m) s (length records) steps ≡ 0 → ⊥)
     → run m s records steps stop
     ≡ record {
-      answer = record { number = run-refusal m s records steps; state = s; steps = 0; unassigned = 0 };
+      answer = record { number = run-refusal (length m) s (length records) steps; state = s; steps = 0; unassigned = 0 };
       memory = m;
     }
 
@@ -47,7 +47,7 @@ Refused-runs =
 abbrev pub Accepted-exactly : Type 0
 Accepted-exactly =
     (m : List ℕ) (s : State) (records : List ℕ) (steps stop : ℕ)
-    → run m s records steps stop .answer .number ≡ run-refusal m s records steps
+    → run m s records steps stop .answer .number ≡ run-refusal (length m) s (length records) steps
 
 -- The steps done are at most the steps asked, and those that met an unassigned word at most the steps done.
 abbrev pub Steps-at-most : Type 0
@@ -61,7 +61,7 @@ Steps-at-most =
 abbrev pub Stops-exactly : Type 0
 Stops-exactly =
     (m : List ℕ) (s : State) (records : List ℕ) (steps stop : ℕ)
-    → run-refusal m s records steps ≡ 0
+    → run-refusal (length m) s (length records) steps ≡ 0
     → (run m s records steps stop .answer .steps < steps → run m s records steps stop .answer .state .pc ≡ stop)
     × ((k : ℕ) → k < run m s records steps stop .answer .steps → run m s records k stop .answer .state .pc ≡ stop → ⊥)
 
@@ -69,6 +69,6 @@ Stops-exactly =
 abbrev pub Odd-never-stops : Type 0
 Odd-never-stops =
     (m : List ℕ) (s : State) (records : List ℕ) (steps stop : ℕ)
-    → run-refusal m s records steps ≡ 0
+    → run-refusal (length m) s (length records) steps ≡ 0
     → stop % 2 ≡ 1
     → run m s records steps stop .answer .steps ≡ steps

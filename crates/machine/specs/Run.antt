@@ -52,12 +52,13 @@ runs stop (suc n) (r ∷ rs) m =
       | false ↦ one-more (step r m .value) (runs stop n rs (step r m .machine))
     ]
 
--- The run's refusals in the order checked: memory's size, the state, more steps than records.
-unfoldable pub run-refusal : List ℕ → State → List ℕ → ℕ → ℕ
-run-refusal m s records steps =
-    if not (eqb (length m) size) then 1
+-- The run's refusals in the order checked: memory's size, the state, more steps than records. The arguments are the memory's
+-- length, the state, the number of records and the steps asked.
+unfoldable pub run-refusal : ℕ → State → ℕ → ℕ → ℕ
+run-refusal bytes s records steps =
+    if not (eqb bytes size) then 1
     else if not (well-formed s) then 2
-    else if ltb (length records) steps then 3
+    else if ltb records steps then 3
     else 0
 
 -- the answer and the memory after the call; a refusal returns the state as given, with no steps, and stores nothing
@@ -67,8 +68,11 @@ pub record RunResult : Type 0 where
 
 unfoldable pub run : List ℕ → State → List ℕ → ℕ → ℕ → RunResult
 run m s records steps stop =
-    if eqb (run-refusal m s records steps) 0 then accepted else refused
+    if eqb refusal 0 then accepted else refused
   where
+    refusal : ℕ
+    refusal = run-refusal (length m) s (length records) steps
+
     done : Ran
     done = runs stop steps records (record { state = s; memory = m })
 
@@ -80,7 +84,7 @@ run m s records steps stop =
         }
 
     refused : RunResult
-    refused = record { answer = record { number = run-refusal m s records steps; state = s; steps = 0; unassigned = 0 }; memory = m }
+    refused = record { answer = record { number = refusal; state = s; steps = 0; unassigned = 0 }; memory = m }
 
 -- What a call of run promises: its answer and the memory after it are these.
 abbrev pub Promised : List ℕ → State → List ℕ → ℕ → ℕ → RunAnswer → List ℕ → Type 0
@@ -88,8 +92,8 @@ Promised m s records steps stop answer after =
     record { answer = answer; memory = after } ≡ run m s records steps stop
 
 -- Power up refuses a memory of another size, with the blank state.
-unfoldable pub power-up-refusal : List ℕ → ℕ
-power-up-refusal m = if not (eqb (length m) size) then 1 else 0
+unfoldable pub power-up-refusal : ℕ → ℕ
+power-up-refusal bytes = if not (eqb bytes size) then 1 else 0
 
 pub record StateResult : Type 0 where
   pub answer : StateAnswer
@@ -97,8 +101,11 @@ pub record StateResult : Type 0 where
 
 -- Power up: blank PSI, then the reset entry from blank registers, with no-sample set.
 unfoldable pub power-up : List ℕ → StateResult
-power-up m = if eqb (power-up-refusal m) 0 then accepted else refused
+power-up m = if eqb refusal 0 then accepted else refused
   where
+    refusal : ℕ
+    refusal = power-up-refusal (length m)
+
     entered : Machine
     entered = perform 0 (boundary reset) (record { state = blank; memory = m }) .machine
 
@@ -106,4 +113,4 @@ power-up m = if eqb (power-up-refusal m) 0 then accepted else refused
     accepted = record { answer = record { number = 0; state = entered .state }; memory = entered .memory }
 
     refused : StateResult
-    refused = record { answer = record { number = power-up-refusal m; state = blank }; memory = m }
+    refused = record { answer = record { number = refusal; state = blank }; memory = m }

@@ -11,17 +11,18 @@ use lib.Seq.{drop-cons}
 use lib.Dec.{eqb, ltb}
 use borrow.Author.Tests.{eq-eqb, eqb-true, ltb-false}
 use Rattle.bits.specs.Bits.{if_then_else_}
+use Rattle.memory.specs.Memory.{size}
 use Rattle.machine.specs.declared.State.{State}
 use Rattle.machine.specs.declared.Kind.{Kind}
 use Rattle.machine.specs.declared.Kind.the-variants.{Reset as was-reset, Load as was-load, Idle as was-idle, Level as was-level, Ran as ran}
 use Rattle.machine.specs.declared.Deed.the-variants.{Ordinary, Unassigned, Switched, Returned}
 use Rattle.machine.specs.State.{Machine, at, blank, well-formed}
-use Rattle.replay_core.specs.Runs.{ended, refusal}
+use Rattle.replay_core.specs.Runs.{ended}
 use Rattle.machine.specs.Perform.{perform}
 use Rattle.machine.specs.declared.RunAnswer.{RunAnswer}
 use Rattle.machine.specs.declared.Signal.the-variants.{Reset as reset}
 use Rattle.machine.specs.Step.{step, boundary}
-use Rattle.machine.specs.Run.{Ran, at-once, one-more, missed, runs, run-refusal, run, power-up-refusal, power-up}
+use Rattle.machine.specs.Run.{Ran, at-once, one-more, missed, runs, run-refusal, run, Promised, power-up-refusal, power-up}
 
 -- a run that d steps, u of them unassigned words, went before
 abbrev pub further : ℕ → ℕ → Ran → Ran
@@ -76,21 +77,31 @@ passed true true false e = (refl, refl)
 passed true false z e = absurd (omega arith)
 passed false y z e = absurd (omega arith)
 
-pub accepted : (bytes : ℕ) (s : State) (records steps : ℕ) → refusal bytes s records steps ≡ 0 → (bytes ≡ 16384) × (steps ≤ records)
+pub accepted : (bytes : ℕ) (s : State) (records steps : ℕ) → run-refusal bytes s records steps ≡ 0 → (bytes ≡ size) × (steps ≤ records)
+unfolding run-refusal
 accepted bytes s records steps e =
-    let p = passed (eqb bytes 16384) (well-formed s) (ltb records steps) e in
+    let p = passed (eqb bytes size) (well-formed s) (ltb records steps) e in
     (eqb-true _ _ (p .0), ltb-false _ _ (p .1))
+
+-- the same of power up
+passed-alone : (x : Bool) → _≡_ {A = ℕ} (if not x then 1 else 0) 0 → x ≡ true
+passed-alone true e = refl
+passed-alone false e = absurd (omega arith)
+
+pub accepted-alone : (bytes : ℕ) → power-up-refusal bytes ≡ 0 → bytes ≡ size
+unfolding power-up-refusal
+accepted-alone bytes e = eqb-true _ _ (passed-alone (eqb bytes size) e)
 
 -- an accepted run answers what its steps lead to
 pub ran-to : (m : List ℕ) (s : State) (rs : List ℕ) (n stop : ℕ) (r : RunAnswer) (x : List ℕ)
-    → run-refusal m s rs n ≡ 0 → runs stop n rs (at s m) ≡ ended r x → r .number ≡ 0
-    → run m s rs n stop ≡ record { answer = r; memory = x }
+    → run-refusal (length m) s (length rs) n ≡ 0 → runs stop n rs (at s m) ≡ ended r x → r .number ≡ 0
+    → Promised m s rs n stop r x
 unfolding run
 ran-to m s rs n stop r x e h z = rw (eq-eqb _ _ e, h, ← z)
 
 -- power up is the reset entry of the blank state
 pub powered : (m : List ℕ) (s : State) (x : List ℕ)
-    → length m ≡ 16384 → perform 0 (boundary reset) (at blank m) .machine ≡ at s x
+    → power-up-refusal (length m) ≡ 0 → perform 0 (boundary reset) (at blank m) .machine ≡ at s x
     → power-up m ≡ record { answer = record { number = 0; state = s }; memory = x }
-unfolding power-up power-up-refusal
+unfolding power-up
 powered m s x e h = rw (eq-eqb _ _ e, h)

@@ -1,28 +1,25 @@
 -- A refusal answers at once; else the steps are run, and their contract is the definition's accepted case.
-use Rattle.machine.specs.Run.{RunResult, run, run-refusal}
+use Rattle.machine.specs.Run.{run}
 use borrow.Author.Tests.{ne-eqb}
-use mathlib.Core.Path.{sym, ap, _∙_}
+use mathlib.Core.Path.{sym, _∙_}
 use Rattle.replay_core.proofs.Runs.{accepted, ran-to}
 use borrow.Author.Needs.{needs}
 use Rattle.replay_core.proofs.run.run.Statement.{statement}
 use Rattle.replay_core.proofs.run.run.Tie as tie
 
 returns : tie.Need-returns
-unfolding run run-refusal
-returns c = (rw (← c .before .run-refusal .ensures, ne-eqb _ _ (c .if1 .taken)), rw (← c .before .run-refusal .ensures, ne-eqb _ _ (c .if1 .taken)))
+unfolding run
+returns c = rw (← c .before .run-refusal .ensures, ne-eqb _ _ (c .if1 .taken))
 
 run-steps-requires : tie.Need-run-steps-requires
 run-steps-requires c κs = accepted _ _ _ _ (sym (c .before .before .run-refusal .ensures) ∙ c .before .if1 .left)
 
 returns-2 : tie.Need-returns-2
-unfolding run-refusal
 returns-2 c =
-    let e =
     ran-to _ _ _ _ _ _ _
     (sym (c .before .before .before .before .before .run-refusal .ensures) ∙ c .before .before .before .before .if1 .left)
     (c .before .before .run-steps .ensures .0)
-    (c .before .before .run-steps .ensures .1) in
-    (sym (ap (λ (z : RunResult). z .answer) e), sym (ap (λ (z : RunResult). z .memory) e))
+    (c .before .before .run-steps .ensures .1)
 
 pub run-spec : {M : Type 1} → statement M
 run-spec =
