@@ -7,5 +7,6 @@ pub mod Execute
 pub mod Step
 pub mod Run
 pub mod Laws
+pub mod Rules
 pub mod Cases
 pub mod Marked
