@@ -113,23 +113,30 @@ impl CruBase {
     pub fn bit(self) -> CruBit
         ensures { λ r. ⌜ r ≡ Cru.first-bit self ⌝ }
     {
-        CruBit(self.0 / 2 % 2048)
+        CruBit(self.0 / 2 % CruBit::NUMBERS)
     }
 }
 
-// A signed 8-bit displacement as the number of bits further that it means where bit numbers wrap.
-pub fn displacement(d: u16) -> u16
-    requires { ⌜ d < 256 ⌝ }
-    ensures { λ r. ⌜ r ≡ Cru.displacement d ⌝ }
-{
-    if d < 128 { d } else { d + 1792 }
-}
-
 impl CruBit {
+    // The bit number wraps here.
+    pub const NUMBERS: u16 = 2048;
+
     // The bit `d` bits further; bit numbers wrap.
     pub fn plus(self, d: u16) -> CruBit
         ensures { λ r. ⌜ r ≡ Cru.beyond self d ⌝ }
     {
-        CruBit((((self.0 as u32) + (d as u32)) % 2048) as u16)
+        CruBit((((self.0 as u32) + (d as u32)) % (CruBit::NUMBERS as u32)) as u16)
+    }
+
+    // The bit that lies a signed 8-bit displacement away.
+    pub fn displaced(self, d: u16) -> CruBit
+        ensures { λ r. ⌜ r ≡ Cru.displaced self d ⌝ }
+    {
+        let ahead = self.plus(d);
+        if d < 0x80 {
+            ahead
+        } else {
+            ahead.plus(CruBit::NUMBERS - 0x100)
+        }
     }
 }
