@@ -29,7 +29,14 @@ fn immediate_register(bytes: &[u8], state: State, op: ImmediateOp, n: u16) -> Lo
 }
 
 // What each operation does with the register's address and old value and the further word.
-fn immediate_effect(bytes: &mut [u8], state: State, op: ImmediateOp, to: u16, d: u16, x: u16) -> State
+fn immediate_effect(
+    bytes: &mut [u8],
+    state: State,
+    op: ImmediateOp,
+    to: u16,
+    d: u16,
+    x: u16,
+) -> State
     requires { ⌜ Installed (now bytes) ⌝ }
     ensures { λ r. ⌜ ((v : ℕ) → perform v (Groups.immediate-effect op to d x) (at state (now (bytes .entry))) ≡ performed tt (at r (now (bytes .exit)))) ⌝ }
 {
@@ -62,12 +69,5 @@ pub fn immediate(bytes: &mut [u8], state: State, op: ImmediateOp, n: u16) -> Sta
     let word = bus::fetch(bytes, s);
     let s = word.state;
     let wp = s.wp;
-    immediate_effect(
-        bytes,
-        s,
-        op,
-        bus::register_at(wp, n),
-        old.value,
-        word.value,
-    )
+    immediate_effect(bytes, s, op, bus::register_at(wp, n), old.value, word.value)
 }

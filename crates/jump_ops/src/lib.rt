@@ -1,4 +1,4 @@
-// Jumps.
+// The jumps: JMP, JLT, JLE, JEQ, JHE, JGT, JNE, JNC, JOC, JNO, JL, JH, JOP.
 ghost use mathlib.Core.Path.{_≡_};
 ghost use Prim.Native.Nat.{ℕ, _+_, _*_, _%_};
 ghost use mathlib.Core.List.{List};
@@ -11,15 +11,15 @@ use machine::State;
 use machine::bus;
 use std::num;
 
-// The address that lies a signed displacement of words from `pc`.
+// The address that lies a signed displacement of words from `pc`: from 80h on it is 100h words less.
 fn target(pc: u16, displacement: u16) -> u16
     ensures { λ r. ⌜ r ≡ (pc + 2 * Bits.signed-byte 0x8000 displacement) % 65536 ⌝ }
 {
     let ahead = num::wrapping_add_u16(pc, num::wrapping_add_u16(displacement, displacement));
-    if displacement < 128 {
+    if displacement < 0x80 {
         ahead
     } else {
-        num::wrapping_sub_u16(ahead, 512)
+        num::wrapping_sub_u16(ahead, 0x200)
     }
 }
 

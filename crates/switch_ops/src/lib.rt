@@ -13,6 +13,9 @@ use memory::Width;
 use operand::results;
 use std::num;
 
+// Where XOP's vectors begin, four bytes each.
+pub const XOP_VECTORS: u16 = 0x40;
+
 // A context switch: both vector words are read, then old WP, PC and ST are stored in the new workspace.
 pub fn switch(bytes: &mut [u8], state: State, vector: u16) -> State
     requires { ⌜ Installed (now bytes) ⌝ }
@@ -47,7 +50,8 @@ pub fn switch_by_number(bytes: &mut [u8], state: State, operand: Operand, number
     ensures { λ r. ⌜ ((v : ℕ) → perform v (Groups.switch-by-number operand number) (at state (now (bytes .entry))) ≡ performed tt (at r (now (bytes .exit)))) ⌝ }
 {
     let address = operand::address(bytes, state, Width::Word, operand);
-    let vector = num::wrapping_add_u16(64, number % 16384 * 4);
+    let twice = num::wrapping_add_u16(number, number);
+    let vector = num::wrapping_add_u16(XOP_VECTORS, num::wrapping_add_u16(twice, twice));
     let mut s = address.state;
     s = switch(bytes, s, vector);
     let st = s.st;

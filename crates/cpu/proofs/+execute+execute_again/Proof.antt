@@ -15,7 +15,7 @@ use Rattle.cpu.proofs.+execute+execute_again.Lts-execute as execute-lts
 use Rattle.cpu.proofs.execute_again.Reads as execute-again
 use Rattle.cpu.proofs.execute_again.Kinds as execute-again-kinds
 use Rattle.cpu.proofs.+execute+execute_again.Lts-execute_again as execute-again-lts
-use Rattle.cpu.proofs.perform_instruction.Reads as perform-instruction-reads
+use Rattle.instructions.proofs.perform_instruction.Reads as perform-instruction-reads
 use Rattle.isa.proofs.decode.Reads as decode-reads
 use Rattle.machine.proofs.bus.load.Reads as load-reads
 use Rattle.operand.proofs.address.Reads as address-reads

@@ -1,7 +1,6 @@
 -- Each arm is the one access of the operation; TB then makes EQ what was read.
 use Rattle.machine.proofs.Bind.{perform-bind}
-use mathlib.Core.Path.{sym}
-use Rattle.machine.specs.Groups.{bit-effect, set-equal}
+use Rattle.machine.specs.Groups.{bit-effect}
 use borrow.Author.Needs.{needs}
 use Rattle.cru_ops.proofs.bit_effect.Statement.{statement}
 use Rattle.cru_ops.proofs.bit_effect.Tie as tie
@@ -15,8 +14,8 @@ unfolding bit-effect
 returns-2 c m = rw (c .before .enum-told2 .given .1) (c .drive2 .ensures _ m)
 
 returns-3 : tie.Need-returns-3
-unfolding bit-effect set-equal
-returns-3 c m = rw (c .before .before .before .before .enum-told3 .given .1, perform-bind, c .before .before .before .sense .ensures m) (c .set-status .ensures _ m _ (sym (c .before .put .ensures)))
+unfolding bit-effect
+returns-3 c m = rw (c .before .before .before .enum-told3 .given .1, perform-bind, c .before .before .sense .ensures m) (c .set-equal .ensures _ m)
 
 pub bit-effect-spec : {M : Type 1} → statement M
 bit-effect-spec =
@@ -27,7 +26,6 @@ bit-effect-spec =
     (λ c. search needs)
     (λ c κs. search needs)
     (λ c. search needs)
-    (λ c κs. search needs)
     (λ c κs. search needs)
     (λ c κs. search needs)
     returns
