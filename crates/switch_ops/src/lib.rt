@@ -1,6 +1,6 @@
 // Context switches (BLWP, XOP and the entries), and RTWP, the return from one.
 ghost use mathlib.Core.Path.{_≡_};
-ghost use Prim.Native.Nat.{ℕ};
+ghost use Prim.Native.Nat.{ℕ, _+_, _*_, _%_};
 ghost use Rattle.memory.specs.Memory.{Installed};
 ghost use Rattle.machine.specs.State.{at};
 ghost use Rattle.machine.specs.Groups as Groups;
@@ -12,9 +12,6 @@ use machine::bus;
 use memory::Width;
 use operand::results;
 use std::num;
-
-// Where XOP's vectors begin, four bytes each.
-pub const XOP_VECTORS: u16 = 0x40;
 
 // A context switch: both vector words are read, then old WP, PC and ST are stored in the new workspace.
 pub fn switch(bytes: &mut [u8], state: State, vector: u16) -> State
@@ -44,14 +41,21 @@ pub fn switch_by_operand(bytes: &mut [u8], state: State, operand: Operand) -> St
     switch(bytes, s, vector.value)
 }
 
+// Where the vector of an XOP is: XOP 0's at 40h, four bytes each.
+fn xop_vector(number: u16) -> u16
+    ensures { λ r. ⌜ r ≡ (0x40 + 4 * number) % 65536 ⌝ }
+{
+    let twice = num::wrapping_add_u16(number, number);
+    num::wrapping_add_u16(0x40, num::wrapping_add_u16(twice, twice))
+}
+
 // XOP: the vector is the number's; X is set, and the operand's address is in the new R11.
 pub fn switch_by_number(bytes: &mut [u8], state: State, operand: Operand, number: u16) -> State
     requires { ⌜ Installed (now bytes) ⌝ }
     ensures { λ r. ⌜ ((v : ℕ) → perform v (Groups.switch-by-number operand number) (at state (now (bytes .entry))) ≡ performed tt (at r (now (bytes .exit)))) ⌝ }
 {
     let address = operand::address(bytes, state, Width::Word, operand);
-    let twice = num::wrapping_add_u16(number, number);
-    let vector = num::wrapping_add_u16(XOP_VECTORS, num::wrapping_add_u16(twice, twice));
+    let vector = xop_vector(number);
     let mut s = address.state;
     s = switch(bytes, s, vector);
     let st = s.st;

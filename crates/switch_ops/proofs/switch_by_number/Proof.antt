@@ -1,9 +1,7 @@
 -- The operand's address, the switch by the number's vector, X, and R11.
-use Prim.Native.Nat.{_+_, _*_, _%_}
-use mathlib.Core.Path.{_≡_, sym}
+use mathlib.Core.Path.{sym}
 use Rattle.switch_ops.proofs.Vectors.{switch-wraps}
 use Rattle.machine.proofs.Bind.{perform-bind}
-use native.Mathlib.Omega.{arith}
 use Rattle.machine.specs.Groups.{switch-by-number}
 use borrow.Author.Needs.{needs}
 use Rattle.switch_ops.proofs.switch_by_number.Statement.{statement}
@@ -16,14 +14,12 @@ returns c v =
     let switched = status .before .before .before .before in
     let vector = switched .before .before .before in
     let operand = vector .before .before .before in
-    let n = operand .before .before .before .args .number in
-    let e : (64 + 4 * n) % 65536 ≡ vector .wrapping-add-u16 .result = omega (arith, vector .wrapping-add-u16 .ensures) in
     rw (
       perform-bind,
       operand .address .ensures v,
       perform-bind,
-      ← switch-wraps v (64 + 4 * n),
-      e,
+      ← switch-wraps v,
+      ← vector .xop-vector .ensures,
       switched .switch .ensures v,
       perform-bind,
       status .set-status .ensures v _ _ (sym (status .before .put .ensures)),
@@ -35,7 +31,6 @@ switch-by-number-spec =
     tie.close
     (tie.spec
     (λ c κs. search needs)
-    (λ c. search needs)
     (λ c κs. search needs)
     (λ c κs. search needs)
     (λ c κs. search needs)
