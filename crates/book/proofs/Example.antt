@@ -21,7 +21,7 @@ use Rattle.book.specs.Claim as Claim
 use Rattle.book.specs.Example as Example
 
 pub example-holds : Example.Example-holds
-unfolding Bits.bit Bits.put Memory.place Memory.number Memory.spread Memory.loaded Memory.stored Memory.places Memory.touched Memory.covers Memory.disjoint Clock.counted Clock.pended Clock.followed Clock.tick Clock.ticks Clock.advanced Pins.parted Pins.port-weight Pins.port-level Pins.request-level Pins.active Pins.requested Pins.lowest Pins.request Pins.code Isa.source Isa.destination Isa.immediate Isa.single Isa.single-operation Isa.control-operation Isa.immediate-operation Isa.decoded Micro.registers Micro.set Micro.fetched Micro.load Micro.store Perform.perform Perform.accesses Perform.fetches Perform.written Operands.register Operands.set-register Operands.indexed Operands.operand Groups.set-status Groups.switch Groups.switch-by-operand Groups.return Groups.command Execute.instruction Execute.execute Step.signal Step.admitted Step.enter Step.proceed Step.boundary Step.stepping Step.step Run.runs Run.run-refusal Run.run State.well-formed Formed.well-formed Logic.joined Logic.without Cases.poked Book.turn Book.step-accesses Book.note Book.event-of Book.event Book.moment Book.moments Book.book-after Book.call-moments Book.call-machine Book.all-moments Book.save-places Claim.Each Claim.Avoided Claim.In-workspace Example.books
+unfolding Bits.bit Bits.put Memory.place Memory.number Memory.spread Memory.loaded Memory.stored Memory.places Memory.touched Memory.covers Memory.disjoint Clock.counted Clock.pended Clock.followed Clock.tick Clock.ticks Clock.advanced Pins.parted Pins.port-weight Pins.port-level Pins.request-level Pins.active Pins.requested Pins.lowest Pins.request Pins.code Isa.source Isa.destination Isa.immediate Isa.single Isa.single-operation Isa.control-operation Isa.immediate-operation Isa.decoded Micro.registers Micro.set Micro.fetched Micro.load Micro.store Perform.perform Perform.accesses Perform.fetches Perform.written Operands.register Operands.set-register Operands.indexed Operands.operand Groups.set-status Groups.switch Groups.switch-by-operand Groups.return Groups.command Execute.instruction Execute.again Execute.execute Step.signal Step.admitted Step.enter Step.proceed Step.boundary Step.stepping Step.step Run.runs Run.run-refusal Run.run State.well-formed Formed.well-formed Logic.joined Logic.without Cases.poked Book.turn Book.step-accesses Book.note Book.event-of Book.event Book.moment Book.moments Book.book-after Book.call-moments Book.call-machine Book.all-moments Book.save-places Claim.Each Claim.Avoided Claim.In-workspace Example.books
 example-holds = (
   (
     record { avoids = tt; in-place = tt },

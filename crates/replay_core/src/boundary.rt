@@ -5,8 +5,6 @@ ghost use Rattle.memory.specs.Memory.{Installed};
 ghost use Rattle.machine.specs.State.{at, registers};
 ghost use Rattle.machine.specs.Step as Step;
 ghost use Rattle.machine.specs.Perform.{perform, performed};
-use control_ops::control;
-use control_ops::switch;
 use machine::Kind;
 use machine::Signal;
 use machine::State;
@@ -99,8 +97,8 @@ fn entry_status(signal: Signal, st: u16) -> u16
 {
     match signal {
         Signal::Reset => 0,
-        Signal::Load => control::masked(0, st),
-        Signal::Level(k) => control::masked(lower(k), st),
+        Signal::Load => control_ops::masked(0, st),
+        Signal::Level(k) => control_ops::masked(lower(k), st),
         Signal::Nothing => st,
     }
 }
@@ -110,7 +108,7 @@ pub fn enter(bytes: &mut [u8], state: State, signal: Signal) -> State
     requires { ⌜ Installed (now bytes) ⌝ }
     ensures { λ r. ⌜ ((v : ℕ) → perform v (Step.enter (Step.vector signal) (Step.entry-status signal)) (at state (now (bytes .entry))) ≡ performed tt (at r (now (bytes .exit)))) ⌝ }
 {
-    let switched = switch::switch(bytes, state, vector(signal));
+    let switched = switch_ops::switch(bytes, state, vector(signal));
     let st = switched.st;
     let judged = results::set_status(switched, entry_status(signal, st));
     let flags = judged.flags;
