@@ -1,77 +1,19 @@
 -- Each arm's call is the microprogram of that variant; what is done after it is the deed that the arm names.
+use Prim.Native.Nat.{ℕ}
+use mathlib.Core.Path.{_≡_}
 use Rattle.machine.proofs.Bind.{perform-bind, perform-done}
+use Rattle.machine.specs.declared.Deed.{Deed}
+use Rattle.machine.specs.State.{Machine}
+use Rattle.machine.specs.Micro.{Micro, done, _>>_}
+use Rattle.machine.specs.Perform.{perform, performed}
 use Rattle.machine.specs.Execute.{instruction, again}
 use borrow.Author.Needs.{needs}
 use Rattle.instructions.proofs.perform_instruction.Statement.{statement}
 use Rattle.instructions.proofs.perform_instruction.Tie as tie
 
-returns : tie.Need-returns
-unfolding instruction
-returns c = rw (c .before .before .before .before .before .instruction .given .1, perform-bind, c .before .before .dual .ensures _, perform-done)
-
-returns-2 : tie.Need-returns-2
-unfolding instruction
-returns-2 c = rw (c .before .before .before .before .before .instruction2 .given .1, perform-bind, c .before .before .with-register .ensures _, perform-done)
-
-returns-3 : tie.Need-returns-3
-unfolding instruction
-returns-3 c = rw (c .before .before .before .before .before .instruction3 .given .1, perform-bind, c .before .before .switch-by-number .ensures _, perform-done)
-
-returns-4 : tie.Need-returns-4
-unfolding instruction
-returns-4 c = rw (c .before .before .before .before .before .instruction4 .given .1, perform-bind, c .before .before .transfer .ensures, perform-done)
-
-returns-5 : tie.Need-returns-5
-unfolding instruction
-returns-5 c = rw (c .before .before .before .instruction5 .given .1, perform-bind, c .access-bit .ensures, perform-done)
-
-returns-6 : tie.Need-returns-6
-unfolding instruction
-returns-6 c = rw (c .before .before .instruction6 .given .1, perform-bind, c .jump .ensures _ _, perform-done)
-
-returns-7 : tie.Need-returns-7
-unfolding instruction
-returns-7 c = rw (c .before .before .before .before .before .instruction7 .given .1, perform-bind, c .before .before .shift .ensures _, perform-done)
-
-returns-8 : tie.Need-returns-8
-unfolding instruction
-returns-8 c = rw (c .before .before .before .before .before .instruction8 .given .1, perform-bind, c .before .before .single .ensures _, perform-done)
-
-returns-9 : tie.Need-returns-9
-unfolding instruction
-returns-9 c = rw (c .before .before .before .before .before .instruction9 .given .1, perform-bind, c .before .before .switch-by-operand .ensures _, perform-done)
-
-returns-10 : tie.Need-returns-10
-unfolding instruction again
-returns-10 c = rw (c .enum-told .given .1, perform-done)
-
-returns-11 : tie.Need-returns-11
-unfolding instruction
-returns-11 c = rw (c .before .before .before .before .before .instruction10 .given .1, perform-bind, c .before .before .immediate .ensures _, perform-done)
-
-returns-12 : tie.Need-returns-12
-unfolding instruction
-returns-12 c = rw (c .before .before .before .before .before .instruction11 .given .1, perform-bind, c .before .before .store-workspace .ensures _, perform-done)
-
-returns-13 : tie.Need-returns-13
-unfolding instruction
-returns-13 c = rw (c .before .before .before .before .before .instruction12 .given .1, perform-bind, c .before .before .store-status .ensures _, perform-done)
-
-returns-14 : tie.Need-returns-14
-unfolding instruction
-returns-14 c = rw (c .before .before .enum-told2 .given .1, perform-bind, c .load-workspace .ensures _, perform-done)
-
-returns-15 : tie.Need-returns-15
-unfolding instruction
-returns-15 c = rw (c .before .before .enum-told3 .given .1, perform-bind, c .load-mask .ensures _, perform-done)
-
-returns-16 : tie.Need-returns-16
-unfolding instruction
-returns-16 c = rw (c .before .before .before .before .instruction13 .given .1, perform-bind, c .command .ensures _, perform-done, c .before .before .command-deed .ensures)
-
-returns-17 : tie.Need-returns-17
-unfolding instruction
-returns-17 c = rw (c .enum-told4 .given .1, perform-done)
+-- a microprogram, and then its deed
+ends : (v : ℕ) (p : Micro (Unit {0})) (d : Deed) (m n : Machine) → perform v p m ≡ performed tt n → perform v (p >> done d) m ≡ performed d n
+ends v p d m n e = rw (perform-bind, e, perform-done)
 
 pub perform-instruction-spec : {M : Type 1} → statement M
 perform-instruction-spec =
@@ -111,33 +53,33 @@ perform-instruction-spec =
     (λ c κs. search needs)
     (λ c. search needs)
     (λ c. search needs)
-    returns
+    (λ c. unfold instruction in rw (c .before .before .before .before .before .instruction .given .1) (ends _ _ _ _ _ (c .before .before .dual .ensures _)))
     (λ c. search needs)
-    returns-2
+    (λ c. unfold instruction in rw (c .before .before .before .before .before .instruction2 .given .1) (ends _ _ _ _ _ (c .before .before .with-register .ensures _)))
     (λ c. search needs)
-    returns-3
+    (λ c. unfold instruction in rw (c .before .before .before .before .before .instruction3 .given .1) (ends _ _ _ _ _ (c .before .before .switch-by-number .ensures _)))
     (λ c. search needs)
-    returns-4
+    (λ c. unfold instruction in rw (c .before .before .before .before .before .instruction4 .given .1) (ends _ _ _ _ _ (c .before .before .transfer .ensures)))
     (λ c. search needs)
-    returns-5
-    returns-6
+    (λ c. unfold instruction in rw (c .before .before .before .instruction5 .given .1) (ends _ _ _ _ _ (c .access-bit .ensures)))
+    (λ c. unfold instruction in rw (c .before .before .instruction6 .given .1) (ends _ _ _ _ _ (c .jump .ensures _ _)))
     (λ c. search needs)
-    returns-7
+    (λ c. unfold instruction in rw (c .before .before .before .before .before .instruction7 .given .1) (ends _ _ _ _ _ (c .before .before .shift .ensures _)))
     (λ c. search needs)
-    returns-8
+    (λ c. unfold instruction in rw (c .before .before .before .before .before .instruction8 .given .1) (ends _ _ _ _ _ (c .before .before .single .ensures _)))
     (λ c. search needs)
-    returns-9
-    returns-10
+    (λ c. unfold instruction in rw (c .before .before .before .before .before .instruction9 .given .1) (ends _ _ _ _ _ (c .before .before .switch-by-operand .ensures _)))
+    (λ c. unfold instruction again in rw (c .enum-told .given .1, perform-done))
     (λ c. search needs)
-    returns-11
+    (λ c. unfold instruction in rw (c .before .before .before .before .before .instruction10 .given .1) (ends _ _ _ _ _ (c .before .before .immediate .ensures _)))
     (λ c. search needs)
-    returns-12
+    (λ c. unfold instruction in rw (c .before .before .before .before .before .instruction11 .given .1) (ends _ _ _ _ _ (c .before .before .store-workspace .ensures _)))
     (λ c. search needs)
-    returns-13
+    (λ c. unfold instruction in rw (c .before .before .before .before .before .instruction12 .given .1) (ends _ _ _ _ _ (c .before .before .store-status .ensures _)))
     (λ c. search needs)
-    returns-14
+    (λ c. unfold instruction in rw (c .before .before .enum-told2 .given .1) (ends _ _ _ _ _ (c .load-workspace .ensures _)))
     (λ c. search needs)
-    returns-15
+    (λ c. unfold instruction in rw (c .before .before .enum-told3 .given .1) (ends _ _ _ _ _ (c .load-mask .ensures _)))
     (λ c. search needs)
-    returns-16
-    returns-17)
+    (λ c. unfold instruction in rw (c .before .before .before .before .instruction13 .given .1, ← c .before .before .command-deed .ensures) (ends _ _ _ _ _ (c .command .ensures _)))
+    (λ c. unfold instruction in rw (c .enum-told4 .given .1, perform-done)))
