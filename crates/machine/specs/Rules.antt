@@ -63,11 +63,11 @@ unfolding Isa.source Isa.destination Isa.dual Isa.with-register Isa.with-displac
 words = tt
 
 unfoldable pub status : Unit {0}
-unfolding Status.raised Status.compared Status.is-odd Status.parity Status.judged Status.carried Status.jumps
+unfolding Status.signed Status.compared Status.is-odd Status.parity Status.judged Status.carried Status.jumps
 status = tt
 
 unfoldable pub sums : Unit {0}
-unfolding Sums.sum-overflows Sums.difference-overflows Sums.sum Sums.difference Sums.negated Sums.absolute
+unfolding Sums.outside Sums.sum-overflows Sums.difference-overflows Sums.sum Sums.difference Sums.negated Sums.absolute
 sums = tt
 
 unfoldable pub shifts : Unit {0}

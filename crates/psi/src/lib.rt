@@ -29,7 +29,7 @@ impl Psi {
     // Bits of a clock register, and the largest number that they hold.
     pub const CLOCK_BITS: u16 = 14;
 
-    pub const CLOCK_LARGEST: u16 = 16383;
+    pub const CLOCK_LARGEST: u16 = (1 << Psi::CLOCK_BITS) - 1;
     // Cycles of one tick.
     pub const TICK_CYCLES: u16 = 64;
     // The words that hold a PSI in an image, one a field.
@@ -92,6 +92,9 @@ pub struct Sensed {
     pub psi: Psi,
 }
 
+// The weight of a record's lowest bit of cycles; below it are 22 levels.
+const CYCLE: u32 = 1 << 22;
+
 // One pin record: 22 levels and the cycles before the step.
 pub struct Record {
     pub levels: u32,
@@ -103,8 +106,8 @@ pub fn split(word: u32) -> Record
     ensures { λ r. ⌜ r ≡ Pins.parted word ⌝ }
 {
     Record {
-        levels: word % 4194304,
-        cycles: (word / 4194304) as u16,
+        levels: word % CYCLE,
+        cycles: (word / CYCLE) as u16,
     }
 }
 

@@ -30,9 +30,6 @@ cast-result c =
     rw (one-if-byte, shifts-exact (c .args .w) (c .args .n) (c .args .on) (c .fits .w .fits) (c .pre))
     (record { fits = put-fits 16 (c .args .n) (c .args .on) (c .args .w) (c .pre) (c .fits .w .fits) })
 
-returns : tie.Need-returns
-returns c = rw (one-if-byte, shifts-exact (c .args .w) (c .args .n) (c .args .on) (c .fits .w .fits) (c .pre))
-
 pub put-spec : {M : Type 1} → statement M
 put-spec =
-    tie.close (tie.spec (λ c. search needs) (λ c. search needs) sub-low mul-made (λ c. search needs) add-made (λ c. search needs) add-result cast-result returns)
+    tie.close (tie.spec (λ c. search needs) (λ c. search needs) sub-low mul-made (λ c. search needs) add-made (λ c. search needs) add-result cast-result (λ c. rw (one-if-byte, shifts-exact (c .args .w) (c .args .n) (c .args .on) (c .fits .w .fits) (c .pre))))

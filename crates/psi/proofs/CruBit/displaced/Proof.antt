@@ -7,13 +7,5 @@ use borrow.Author.Needs.{needs}
 use Rattle.psi.proofs.CruBit.displaced.Statement.{statement}
 use Rattle.psi.proofs.CruBit.displaced.Tie as tie
 
-returns : tie.Need-returns
-unfolding beyond displaced signed-byte
-returns c = simp (lt-ltb _ _ (c .if1 .taken)) (c .before .plus .ensures)
-
-returns-2 : tie.Need-returns-2
-unfolding beyond displaced signed-byte
-returns-2 c = simp (le-ltb _ _ (c .before .if1 .left)) (rw (c .plus2 .ensures, c .before .before .plus .ensures, mod-add-mod, add-assoc))
-
 pub displaced-spec : {M : Type 1} → statement M
-displaced-spec = tie.close (tie.spec (λ c κs. search needs) (λ c. search needs) (λ c κs. search needs) returns returns-2)
+displaced-spec = tie.close (tie.spec (λ c κs. search needs) (λ c. search needs) (λ c κs. search needs) (λ c. unfold beyond displaced signed-byte in (simp (lt-ltb _ _ (c .if1 .taken)) (c .before .plus .ensures))) (λ c. unfold beyond displaced signed-byte in (simp (le-ltb _ _ (c .before .if1 .left)) (rw (c .plus2 .ensures, c .before .before .plus .ensures, mod-add-mod, add-assoc)))))
