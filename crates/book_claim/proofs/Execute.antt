@@ -17,7 +17,7 @@ use Rattle.machine.specs.Micro.{Micro, done, _>>=_, _>>_, registers, set, load}
 use Rattle.machine.specs.Perform.{perform, accesses, fetches, even}
 use Rattle.machine.specs.Operands.{register-at, register, operand}
 use Rattle.machine.specs.Groups as G
-use Rattle.machine.specs.Execute.{command-deed, instruction, execute}
+use Rattle.machine.specs.Execute.{command-deed, instruction, again, execute}
 use Rattle.book_claim.specs.Claim.{Stands}
 use Rattle.book_claim.proofs.Steady.{steady-bind, operand-steady, load-steady}
 use Rattle.book_claim.proofs.Does.{Judgement, Does, Movable, after-steady, then-done}
@@ -90,12 +90,15 @@ module _ (again : Operand → Micro Deed) (means : (o : Operand) → Does Meant 
   instruction-means (Control op) = commanded op
   instruction-means Unassigned = unassigned
 
+-- what X does with its operand, by induction on the allowance
+x-means : (k : ℕ) (o : Operand) → Does Meant (again k o)
+unfolding again execute
+x-means zero o = unassigned
+x-means (suc k) o =
+    after-steady Meant meant-movable (operand Word o >>= load Word) (execute k)
+    (steady-bind (operand Word o) (load Word) (operand-steady Word o) (load-steady Word))
+    (λ w. instruction-means (again k) (x-means k) (decoded w))
+
 pub executed : (k w : ℕ) → Does Meant (execute k w)
 unfolding execute
-executed zero w = instruction-means (λ o. done deed.Unassigned) (λ o. unassigned) (decoded w)
-executed (suc k) w =
-    instruction-means (λ o. (operand Word o >>= load Word) >>= execute k)
-    (λ o. after-steady Meant meant-movable (operand Word o >>= load Word) (execute k)
-    (steady-bind (operand Word o) (load Word) (operand-steady Word o) (load-steady Word))
-    (executed k))
-    (decoded w)
+executed k w = instruction-means (again k) (x-means k) (decoded w)

@@ -5,7 +5,6 @@ ghost use Rattle.memory.specs.Memory.{Installed};
 ghost use Rattle.machine.specs.State.{at};
 ghost use Rattle.machine.specs.Step as Step;
 ghost use Rattle.machine.specs.Perform.{perform, performed};
-use control_ops::switch;
 use machine::Kind;
 use machine::Signal;
 use machine::State;
@@ -23,7 +22,7 @@ pub fn enter(bytes: &mut [u8], state: State, signal: Signal) -> State
     requires { ⌜ Installed (now bytes) ⌝ }
     ensures { λ r. ⌜ ((v : ℕ) → perform v (Step.enter (Step.vector signal) (Step.entry-status signal)) (at state (now (bytes .entry))) ≡ performed tt (at r (now (bytes .exit)))) ⌝ }
 {
-    let switched = switch::switch(bytes, state, sampling::vector(signal));
+    let switched = switch_ops::switch(bytes, state, sampling::vector(signal));
     let st = switched.st;
     let judged = results::set_status(switched, sampling::entry_status(signal, st));
     let flags = judged.flags;

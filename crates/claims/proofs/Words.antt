@@ -42,7 +42,7 @@ use Rattle.machine.specs.Micro.{Micro, Target, done, _>>=_, _>>_, registers, se
 use Rattle.machine.specs.Perform.{perform, performed, accesses, fetches, Access, was-fetched, was-read, was-written, was-sensed, was-driven}
 use Rattle.machine.specs.Operands.{register, set-register, indexed, stepped, operand}
 use Rattle.machine.specs.Groups as G
-use Rattle.machine.specs.Execute.{instruction, execute}
+use Rattle.machine.specs.Execute.{instruction, again, execute}
 use Rattle.machine.proofs.Bind.{perform-bind, accesses-bind}
 use Rattle.claims.specs.Words.{words, counted, Announced-words-are-fetched, executed, Executed-words-are-fetched}
 
@@ -150,18 +150,18 @@ module _ (v : ℕ) where
 
   ruleset ends = (plain, of-set-status, of-conclude, of-conclude-judged)
 
-  of-combine : (op : DualOp) (w : Width) (s a : ℕ) → Takes v 0 (G.combine op w s a)
-  unfolding G.combine
-  of-combine Szc w s a m = simp ends
-  of-combine S w s a m = simp ends
-  of-combine C w s a m = simp ends
-  of-combine A w s a m = simp ends
-  of-combine Mov w s a m = simp ends
-  of-combine Soc w s a m = simp ends
+  of-dual-effect : (op : DualOp) (w : Width) (s a : ℕ) → Takes v 0 (G.dual-effect op w s a)
+  unfolding G.dual-effect
+  of-dual-effect Szc w s a m = simp ends
+  of-dual-effect S w s a m = simp ends
+  of-dual-effect C w s a m = simp ends
+  of-dual-effect A w s a m = simp ends
+  of-dual-effect Mov w s a m = simp ends
+  of-dual-effect Soc w s a m = simp ends
 
   of-dual : (op : DualOp) (w : Width) (s d : Operand) → Takes v (operand-words s + operand-words d) (G.dual op w s d)
   unfolding G.dual
-  of-dual op w s d m = simp (ends, of-combine) (omega arith)
+  of-dual op w s d m = simp (ends, of-dual-effect) (omega arith)
 
   of-set-equal : (b : Bool) → Takes v 0 (G.set-equal b)
   unfolding G.set-equal
@@ -177,17 +177,17 @@ module _ (v : ℕ) where
       rw (words-bind, of-register, zero-add)
       (either-way (Takes v 0) (leb x _) (λ _. of-set-status _) (λ _ m. simp (ends, of-set-pair)) _)
 
-  of-apply : (op : RegisterOp) (n x : ℕ) → Takes v 0 (G.apply op n x)
-  unfolding G.apply
-  of-apply Coc n x m = simp (ends, of-set-equal)
-  of-apply Czc n x m = simp (ends, of-set-equal)
-  of-apply Xor n x m = simp ends
-  of-apply Mpy n x m = simp (ends, of-set-pair)
-  of-apply Div n x m = of-divide n x m
+  of-register-effect : (op : RegisterOp) (n x : ℕ) → Takes v 0 (G.register-effect op n x)
+  unfolding G.register-effect
+  of-register-effect Coc n x m = simp (ends, of-set-equal)
+  of-register-effect Czc n x m = simp (ends, of-set-equal)
+  of-register-effect Xor n x m = simp ends
+  of-register-effect Mpy n x m = simp (ends, of-set-pair)
+  of-register-effect Div n x m = of-divide n x m
 
   of-with-register : (op : RegisterOp) (s : Operand) (n : ℕ) → Takes v (operand-words s) (G.with-register op s n)
   unfolding G.with-register
-  of-with-register op s n m = simp (ends, of-apply) (omega arith)
+  of-with-register op s n m = simp (ends, of-register-effect) (omega arith)
 
   of-cru-base : Takes v 0 G.cru-base
   unfolding G.cru-base
@@ -216,15 +216,15 @@ module _ (v : ℕ) where
   of-transfer Ldcr o n m = of-load-cru _ o m
   of-transfer Stcr o n m = of-store-cru _ o m
 
-  of-reach : (op : BitOp) (b : CruBit) → Takes v 0 (G.reach op b)
-  unfolding G.reach
-  of-reach Sbo b m = of-driven b true m
-  of-reach Sbz b m = of-driven b false m
-  of-reach Tb b m = simp (ends, of-set-equal)
+  of-bit-effect : (op : BitOp) (b : CruBit) → Takes v 0 (G.bit-effect op b)
+  unfolding G.bit-effect
+  of-bit-effect Sbo b m = of-driven b true m
+  of-bit-effect Sbz b m = of-driven b false m
+  of-bit-effect Tb b m = simp (ends, of-set-equal)
 
   of-access-bit : (op : BitOp) (d : ℕ) → Takes v 0 (G.access-bit op d)
   unfolding G.access-bit
-  of-access-bit op d m = simp (ends, of-cru-base, of-reach)
+  of-access-bit op d m = simp (ends, of-cru-base, of-bit-effect)
 
   of-jump : (op : JumpOp) (d : ℕ) → Takes v 0 (G.jump op d)
   unfolding G.jump
@@ -240,48 +240,48 @@ module _ (v : ℕ) where
   unfolding G.shift
   of-shift op n c m = simp (ends, of-shift-count)
 
-  of-replace : (a x : ℕ) → Takes v 0 (G.replace a x)
-  unfolding G.replace
-  of-replace a x = either-way (Takes v 0) (bit 15 x) (λ _. of-store Word a _) (λ _. of-done tt)
+  of-store-absolute : (a x : ℕ) → Takes v 0 (G.store-absolute a x)
+  unfolding G.store-absolute
+  of-store-absolute a x = either-way (Takes v 0) (bit 15 x) (λ _. of-store Word a _) (λ _. of-done tt)
 
-  of-modify : (op : SingleOp) (a : ℕ) → Takes v 0 (G.modify op a)
-  unfolding G.modify
-  of-modify B a m = simp ends
-  of-modify Clr a m = simp ends
-  of-modify Neg a m = simp ends
-  of-modify Inv a m = simp ends
-  of-modify Inc a m = simp ends
-  of-modify Inct a m = simp ends
-  of-modify Dec a m = simp ends
-  of-modify Dect a m = simp ends
-  of-modify Bl a m = simp ends
-  of-modify Swpb a m = simp ends
-  of-modify Seto a m = simp ends
-  of-modify Abs a m = simp (ends, of-replace)
+  of-single-effect : (op : SingleOp) (a : ℕ) → Takes v 0 (G.single-effect op a)
+  unfolding G.single-effect
+  of-single-effect B a m = simp ends
+  of-single-effect Clr a m = simp ends
+  of-single-effect Neg a m = simp ends
+  of-single-effect Inv a m = simp ends
+  of-single-effect Inc a m = simp ends
+  of-single-effect Inct a m = simp ends
+  of-single-effect Dec a m = simp ends
+  of-single-effect Dect a m = simp ends
+  of-single-effect Bl a m = simp ends
+  of-single-effect Swpb a m = simp ends
+  of-single-effect Seto a m = simp ends
+  of-single-effect Abs a m = simp (ends, of-store-absolute)
 
   of-single : (op : SingleOp) (o : Operand) → Takes v (operand-words o) (G.single op o)
   unfolding G.single
-  of-single op o m = simp (ends, of-modify) (omega arith)
+  of-single op o m = simp (ends, of-single-effect) (omega arith)
 
-  of-merge : (op : ImmediateOp) (a d x : ℕ) → Takes v 0 (G.merge op a d x)
-  unfolding G.merge
-  of-merge Li a d x m = simp ends
-  of-merge Ai a d x m = simp ends
-  of-merge Andi a d x m = simp ends
-  of-merge Ori a d x m = simp ends
-  of-merge Ci a d x m = simp ends
+  of-immediate-effect : (op : ImmediateOp) (a d x : ℕ) → Takes v 0 (G.immediate-effect op a d x)
+  unfolding G.immediate-effect
+  of-immediate-effect Li a d x m = simp ends
+  of-immediate-effect Ai a d x m = simp ends
+  of-immediate-effect Andi a d x m = simp ends
+  of-immediate-effect Ori a d x m = simp ends
+  of-immediate-effect Ci a d x m = simp ends
 
-  of-old : (op : ImmediateOp) (n : ℕ) → Takes v 0 (G.old op n)
-  unfolding G.old
-  of-old Li n = of-done 0
-  of-old Ai n = of-register n
-  of-old Andi n = of-register n
-  of-old Ori n = of-register n
-  of-old Ci n = of-register n
+  of-immediate-register : (op : ImmediateOp) (n : ℕ) → Takes v 0 (G.immediate-register op n)
+  unfolding G.immediate-register
+  of-immediate-register Li n = of-done 0
+  of-immediate-register Ai n = of-register n
+  of-immediate-register Andi n = of-register n
+  of-immediate-register Ori n = of-register n
+  of-immediate-register Ci n = of-register n
 
   of-immediate : (op : ImmediateOp) (n : ℕ) → Takes v 1 (G.immediate op n)
   unfolding G.immediate
-  of-immediate op n m = simp (ends, of-old, of-merge)
+  of-immediate op n m = simp (ends, of-immediate-register, of-immediate-effect)
 
   of-load-mask : Takes v 1 G.load-mask
   unfolding G.load-mask
@@ -357,10 +357,10 @@ counted-same : (f g : Operand → ℕ) (i : Instruction) → ((o : Operand) → 
 counted-same f g i e = ap (λ h. counted h i) (fun-ext e)
 
 pub executed-words-are-fetched : Executed-words-are-fetched
-unfolding execute executed further-words
+unfolding execute again executed further-words
 executed-words-are-fetched v zero w m =
     announced-words-are-fetched v _ (decoded w) m ∙ counted-same _ _ (decoded w) (λ o. of-done v _ m)
 executed-words-are-fetched v (suc k) w m =
     announced-words-are-fetched v _ (decoded w) m
     ∙ counted-same _ _ (decoded w)
-    (λ o. rw (words-bind, words-bind, of-operand, of-load, perform-bind, perform-load, executed-words-are-fetched v k _ _, add-zero))
+    (λ o. rw (words-bind, words-bind, of-operand, of-load, perform-bind, perform-load, add-zero) (ap (operand-words o +_) (executed-words-are-fetched v k _ _)))

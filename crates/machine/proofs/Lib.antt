@@ -1,4 +1,4 @@
 pub mod Marked
 pub mod Bind
 pub mod Laws
-pub mod Execute
+pub mod Order

@@ -13,7 +13,7 @@ use Rattle.machine.specs.Micro.{Micro, done, _>>=_, _>>_, load}
 use Rattle.machine.specs.Operands.{operand}
 use Rattle.machine.specs.Groups as G
 
--- RTWP returns; the other control forms are ordinary.
+-- RTWP returns (the book goes by it); the other control forms are ordinary.
 abbrev pub command-deed : ControlOp → Deed
 command-deed Idle = deed.Ordinary
 command-deed Rset = deed.Ordinary
@@ -42,16 +42,19 @@ instruction again Limi = G.load-mask >> done deed.Ordinary
 instruction again (Control op) = G.command op >> done (command-deed op)
 instruction again Unassigned = done deed.Unassigned
 
--- X executes the word at its operand's address and takes further words from after itself; the allowance is how many more X
--- a step may execute, and one beyond it is read as an unassigned word, with no operand worked out.
-unfoldable pub execute : ℕ → ℕ → Micro Deed
-execute zero w = instruction (λ o. done deed.Unassigned) (decoded w)
-execute (suc k) w = instruction (λ o. (operand Word o >>= load Word) >>= execute k) (decoded w)
+-- a word executed, where `again` is what X does with its operand
+abbrev pub execute-by : (Operand → Micro Deed) → ℕ → Micro Deed
+execute-by again w = instruction again (decoded w)
 
--- what X does with its operand, by the allowance that is left
+-- X executes the word at its operand's address and takes further words from after itself. The allowance is how many more X the
+-- step may execute; one beyond it is read as an unassigned word, with no operand worked out.
 unfoldable pub again : ℕ → Operand → Micro Deed
 again zero o = done deed.Unassigned
-again (suc k) o = (operand Word o >>= load Word) >>= execute k
+again (suc k) o = (operand Word o >>= load Word) >>= execute-by (again k)
+
+-- a word executed with an allowance of X
+unfoldable pub execute : ℕ → ℕ → Micro Deed
+execute k = execute-by (again k)
 
 -- The ninth X of one step is read as an unassigned word.
 abbrev pub allowance : ℕ

@@ -52,3 +52,11 @@ pub fn set_status(state: State, st: u16) -> State
 {
     bus::set_st(state, st)
 }
+
+// COC, CZC, TB: EQ alone.
+pub fn set_equal(state: State, on: bool) -> State
+    ensures { λ r. ⌜ ((v : ℕ) (m : List ℕ) → perform v (Groups.set-equal on) (at state m) ≡ performed tt (at r m)) ⌝ }
+{
+    let st = state.st;
+    set_status(state, bits::put(st, alu::status::EQUAL, on))
+}

@@ -3,7 +3,6 @@ ghost use mathlib.Core.Path.{_≡_};
 ghost use Prim.Native.Nat.{_-_};
 ghost use Rattle.machine.specs.State.{registers};
 ghost use Rattle.machine.specs.Step as Step;
-use control_ops::control;
 use machine::Signal;
 use machine::State;
 
@@ -97,8 +96,8 @@ pub fn entry_status(signal: Signal, st: u16) -> u16
 {
     match signal {
         Signal::Reset => 0,
-        Signal::Load => control::masked(0, st),
-        Signal::Level(k) => control::masked(lower(k), st),
+        Signal::Load => control_ops::masked(0, st),
+        Signal::Level(k) => control_ops::masked(lower(k), st),
         Signal::Nothing => st,
     }
 }

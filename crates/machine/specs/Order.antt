@@ -1,0 +1,47 @@
+-- The order of the accesses of entries and of RTWP.
+use Prim.Native.Nat.{ℕ, _+_, _*_, _%_}
+use mathlib.Core.Path.{_≡_}
+use mathlib.Core.List.{List, [], _∷_, _++_}
+use Rattle.memory.specs.declared.Width.the-variants.{Word}
+use Rattle.memory.specs.Memory.{loaded}
+use Rattle.isa.specs.declared.Operand.{Operand}
+use Rattle.machine.specs.State.{Machine}
+use Rattle.machine.specs.Perform.{perform, even, Access, was-read, was-written, accesses}
+use Rattle.machine.specs.Operands.{register-at, operand}
+use Rattle.machine.specs.Groups.{switch, switch-by-number, return}
+
+-- where register n of the workspace is that a vector leads to
+abbrev pub new-register : ℕ → ℕ → Machine → ℕ
+new-register n vector m = register-at (even (loaded Word (m .memory) vector)) n
+
+-- Both vector words are read first, then old WP, PC and ST are stored in the new R13, R14 and R15.
+abbrev pub switching : ℕ → Machine → List Access
+switching vector m =
+    was-read Word vector
+    ∷ was-read Word ((vector + 2) % 65536)
+    ∷ was-written Word (new-register 13 vector m) (m .state .wp)
+    ∷ was-written Word (new-register 14 vector m) (m .state .pc)
+    ∷ was-written Word (new-register 15 vector m) (m .state .st)
+    ∷ []
+
+abbrev pub Switch-in-order : Type 0
+Switch-in-order = (v vector : ℕ) (m : Machine) → accesses v (switch vector) m ≡ switching vector m
+
+-- XOP n: the operand's address is worked out, the switch saves ST without X, and the address is put in the new R11.
+abbrev pub Xop-in-order : Type 0
+Xop-in-order =
+    (v : ℕ) (o : Operand) (n : ℕ) (m : Machine)
+    → accesses v (switch-by-number o n) m
+    ≡ accesses v (operand Word o) m
+    ++ (switching (0x40 + 4 * n) (perform v (operand Word o) m .machine)
+    ++ (was-written Word (new-register 11 (0x40 + 4 * n) (perform v (operand Word o) m .machine)) (perform v (operand Word o) m .value) ∷ []))
+
+-- RTWP reads R13, R14 and R15 of the workspace that it leaves, and stores nothing.
+abbrev pub Return-in-order : Type 0
+Return-in-order =
+    (v : ℕ) (m : Machine)
+    → accesses v return m
+    ≡ was-read Word (register-at (m .state .wp) 13)
+    ∷ was-read Word (register-at (m .state .wp) 14)
+    ∷ was-read Word (register-at (m .state .wp) 15)
+    ∷ []
