@@ -31,7 +31,7 @@ use Rattle.machine.specs.Micro.{Micro, done, _>>=_, _>>_, to-flags, registers, 
 use Rattle.machine.specs.Perform.{Performed, perform}
 use Rattle.machine.specs.Operands.{set-register, operand}
 use Rattle.machine.specs.Groups as G
-use Rattle.machine.specs.Execute.{command-deed, instruction, execute, allowance}
+use Rattle.machine.specs.Execute.{command-deed, instruction, again, execute, allowance}
 use Rattle.machine.specs.Step.{vector, entry-status, enter, proceed, boundary, clocked, step}
 use Rattle.machine.proofs.Bind.{perform-bind, perform-done}
 use Rattle.claims.specs.Interrupts.{taken}
@@ -190,13 +190,15 @@ module _ (again : Operand → Micro Deed) (means : (o : Operand) → After Switc
   instruction-switches (Control op) = commanded op
   instruction-switches Unassigned = unassigned
 
+again-switches : (k : ℕ) (o : Operand) → After Switching (again k o)
+unfolding again
+again-switches zero o = unassigned
+again-switches (suc k) o =
+    after-bind Switching (operand Word o >>= load Word) _ (λ w. instruction-switches (again k) (again-switches k) (decoded w))
+
 executes : (k w : ℕ) → After Switching (execute k w)
 unfolding execute
-executes zero w = instruction-switches (λ o. done deed.Unassigned) (λ o. unassigned) (decoded w)
-executes (suc k) w =
-    instruction-switches (λ o. (operand Word o >>= load Word) >>= execute k)
-    (λ o. after-bind Switching (operand Word o >>= load Word) (execute k) (executes k))
-    (decoded w)
+executes k w = instruction-switches (again k) (again-switches k) (decoded w)
 
 -- a step that was an entry
 Entering : Kind → Machine → Type 0
