@@ -2,20 +2,18 @@
 -- nothing; and what was observed of a call is what the rules give, so the calls of a list keep it one after the other.
 use Prim.Native.Nat.{ℕ, zero, suc}
 use mathlib.Core.Path.{_≡_, refl, ap}
-use mathlib.Core.Bool.{Bool, true, false, not}
+use mathlib.Core.Bool.{Bool, true, false}
 use mathlib.Core.List.{List, [], _∷_}
-use native.Mathlib.Omega.{arith}
 use lib.ListN.{length}
-use lib.Dec.{eqb, ltb}
+use lib.Dec.{eqb}
 use borrow.Author.Tests.{eqb-true}
-use Rattle.bits.specs.Bits.{if_then_else_}
-use Rattle.memory.specs.Memory.{size}
 use Rattle.machine.specs.declared.State.{State}
-use Rattle.machine.specs.State.{Machine, at, well-formed}
+use Rattle.machine.specs.State.{Machine, at}
 use Rattle.machine.specs.Step.{step}
 use Rattle.machine.specs.Run.{runs, run, run-refusal, RunResult}
 use Rattle.machine.specs.Laws.{Words}
 use Rattle.machine.proofs.Laws.{form}
+use Rattle.run_rules.proofs.Laws as Laws
 use Rattle.book.specs.Book.{Book, turn, event, Moment, moment, moments, book-after, Call, call-moments, call-machine, all-moments}
 use Rattle.book_claim.specs.Claim.{Seen, calls, Chained, Each, Respected, Given-back, Kept, Last-given-back, Calls-kept, Open-entries-are-kept}
 use Rattle.book_claim.proofs.Each.{each-map, each-split, each-append}
@@ -47,15 +45,15 @@ nothing P b m h g p = record { kept = tt; words = h; good = g; last = p }
 -- a run that stops at once, and one that makes a step
 module _ (stop n r : ℕ) (rs : List ℕ) (m : Machine) (b : Book) where
   stops : eqb (m .state .pc) stop ≡ true → (moments stop (suc n) (r ∷ rs) m b ≡ []) × (runs stop (suc n) (r ∷ rs) m .machine ≡ m)
-  unfolding moments runs
-  stops e = (rw (e, moments), rw (e, runs))
+  unfolding moments
+  stops e = (rw (e, moments), rw (Laws.stopped stop (suc n) (r ∷ rs) m e))
 
   goes :
       eqb (m .state .pc) stop ≡ false
       → (moments stop (suc n) (r ∷ rs) m b ≡ moment r m b ∷ moments stop n rs (step r m .machine) (turn (event r m) b))
       × (runs stop (suc n) (r ∷ rs) m .machine ≡ runs stop n rs (step r m .machine) .machine)
-  unfolding moments runs
-  goes e = (rw (e, moments), rw (e, runs))
+  unfolding moments
+  goes e = (rw (e, moments), rw (Laws.goes-on stop n r rs m e))
 
 -- one step more in front
 one-more :
@@ -100,19 +98,14 @@ through P stop (suc n) (r ∷ rs) m b h g p e =
     h g p e
 
 -- an accepted call: memory is installed, the state is well formed, and its steps are the run's; a refused one: nothing
-no-refusal : (a b c : Bool) → _≡_ {A = ℕ} (if not a then 1 else if not b then 2 else if c then 3 else 0) 0 → (a ≡ true) × (b ≡ true)
-no-refusal true true c e = (refl, refl)
-no-refusal true false c e = absurd (omega arith)
-no-refusal false b c e = absurd (omega arith)
-
 accepted-sound :
-    (m : Machine) (records : List ℕ) (steps : ℕ) → Words (m .state) → run-refusal (length (m .memory)) (m .state) (length records) steps ≡ 0 → Sound m
-unfolding run-refusal
+    (m : Machine) (records : List ℕ) (steps : ℕ)
+    → Words (m .state) → run-refusal (length (m .memory)) (m .state) (length records) steps ≡ 0 → Sound m
 accepted-sound m records steps h e =
-    let q = no-refusal (eqb (length (m .memory)) size) (well-formed (m .state)) (ltb (length records) steps) e in
+    let a = Laws.accepted _ _ _ _ e in
     record {
-      fit = record { installed = eqb-true _ _ (q .0); words = h };
-      form = form (m .state) (q .1);
+      fit = record { installed = a .sized; words = h };
+      form = form (m .state) (a .formed);
     }
 
 module _ (m : Machine) (b : Book) (c : Call) where

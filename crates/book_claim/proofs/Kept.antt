@@ -54,7 +54,7 @@ module _ (word : ℕ) (m : Machine) (n : Note) (apart : disjoint (save-places n)
   unfolding save-places
   still-stands s =
       record {
-        wp = word-kept (register-at (n .workspace) 13) (λ i c. simp (covers-append, c, or-true)) ∙ s .wp;
+        wp = word-kept (register-at (n .workspace) 13) (λ i c. simp (covers-append, c)) ∙ s .wp;
         pc = word-kept (register-at (n .workspace) 14) (λ i c. simp (covers-append, c, or-true)) ∙ s .pc;
         st = word-kept (register-at (n .workspace) 15) (λ i c. simp (covers-append, c, or-true)) ∙ s .st;
       }

@@ -84,7 +84,7 @@ proceeds =
 bounds : (s : Signal) → Does Meaning (boundary s)
 unfolding boundary Meaning
 bounds reset = then-done (λ u m n i. Unit) Meaning (λ u. was-reset) (λ u m n i t. tt) (enter 0 (λ st. 0)) (λ v m h. tt)
-bounds load = then-done _ Meaning (λ u. was-load) (λ u m n i t. t) (enter 16380 (masked 0)) (enter-saves 16380 (masked 0))
+bounds load = then-done _ Meaning (λ u. was-load) (λ u m n i t. t) (enter 0x3FFC (masked 0)) (enter-saves 0x3FFC (masked 0))
 bounds none = λ v m h. proceeded-means _ m _ _ (proceeds v m h)
 bounds (level k) =
     then-done _ Meaning (λ u. was-level k) (λ u m n i t. t) (enter (4 * k % 65536) (masked (k - 1))) (enter-saves (4 * k % 65536) (masked (k - 1)))

@@ -4,7 +4,7 @@ use borrow.Author.Tests.{ne-eqb}
 use mathlib.Core.Path.{sym, ap, _∙_}
 use denote.Ref.{now}
 use Rattle.machine.specs.Step as Step
-use Rattle.replay_core.proofs.Runs.{accepted-alone, powered}
+use Rattle.replay_core.proofs.Runs.{powers, powered}
 use Rattle.machine.proofs.Bind.{perform-bind, perform-done}
 use borrow.Author.Needs.{needs}
 use Rattle.replay_core.proofs.run.power_up.Statement.{statement}
@@ -19,7 +19,7 @@ returns c =
     )
 
 enter-requires : tie.Need-enter-requires
-enter-requires c κs = accepted-alone _ (sym (c .before .before .power-up-refusal .ensures) ∙ c .before .if1 .left)
+enter-requires c κs = powers _ (sym (c .before .before .power-up-refusal .ensures) ∙ c .before .if1 .left)
 
 returns-2 : tie.Need-returns-2
 unfolding Step.boundary

@@ -10,7 +10,8 @@ use borrow.Author.Tests.{eq-eqb, ne-eqb}
 use Rattle.memory.specs.Memory.{size}
 use Rattle.machine.specs.State.{at}
 use Rattle.machine.specs.Run.{runs}
-use Rattle.replay_core.proofs.Runs.{further, further-none, further-once, stopped, none-left, goes-on, missed-at-most}
+use Rattle.run_rules.proofs.Laws.{stopped, none-left, missed-at-most}
+use Rattle.replay_core.proofs.Runs.{further, further-none, further-once, goes-on}
 use Rattle.replay_core.proofs.run.run_steps.Statement.{statement}
 use Rattle.replay_core.proofs.run.run_steps.Tie as tie
 
