@@ -20,11 +20,13 @@ pub data Micro (A : Type 0) : Type 0 where
   fetch : (ℕ → Micro A) → Micro A
   -- an operand, a register or a vector word
   read : Width → ℕ → (ℕ → Micro A) → Micro A
+  -- a value stored
   write : Width → ℕ → ℕ → Micro A → Micro A
   -- a CRU bit
   sense : CruBit → (Bool → Micro A) → Micro A
   drive : CruBit → Bool → Micro A → Micro A
 
+-- one microprogram, and then another that takes what the first found
 infixl 1 _>>=_
 infixl 1 _>>_
 abbrev pub _>>=_ : {A B : Type 0} → Micro A → (A → Micro B) → Micro B

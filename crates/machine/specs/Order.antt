@@ -1,14 +1,43 @@
--- The order of the accesses of entries and of RTWP.
+-- The order of accesses that document 01 fixes: of dual forms, of entries, of RTWP; and ABS, which stores a negative operand only.
 use Prim.Native.Nat.{ℕ, _+_, _*_, _%_}
 use mathlib.Core.Path.{_≡_}
 use mathlib.Core.List.{List, [], _∷_, _++_}
+use Rattle.bits.specs.Bits.{if_then_else_, bit}
+use Rattle.memory.specs.declared.Width.{Width}
 use Rattle.memory.specs.declared.Width.the-variants.{Word}
 use Rattle.memory.specs.Memory.{loaded}
 use Rattle.isa.specs.declared.Operand.{Operand}
+use Rattle.isa.specs.declared.DualOp.{DualOp}
+use Rattle.isa.specs.declared.SingleOp.the-variants.{Abs}
+use Rattle.alu.specs.Sums.{absolute}
 use Rattle.machine.specs.State.{Machine}
-use Rattle.machine.specs.Perform.{perform, even, Access, was-read, was-written, accesses}
+use Rattle.machine.specs.Perform.{Performed, perform, even, Access, was-read, was-written, accesses}
 use Rattle.machine.specs.Operands.{register-at, operand}
-use Rattle.machine.specs.Groups.{switch, switch-by-number, return}
+use Rattle.machine.specs.Groups.{dual, dual-effect, single-effect, switch, switch-by-number, return}
+
+-- Source before destination; for each the address, then the increment stored, then the value read.
+abbrev pub Dual-in-order : Type 0
+Dual-in-order =
+    (v : ℕ) (op : DualOp) (w : Width) (s d : Operand) (m : Machine)
+    → accesses v (dual op w s d) m
+    ≡ accesses v (operand w s) m
+    ++ (was-read w (from v w s m .value) ∷ (accesses v (operand w d) (from v w s m .machine) ++ accesses v (dual-effect op w (source v w s m) (to v w s d m .value)) (to v w s d m .machine)))
+  where
+    from : ℕ → Width → Operand → Machine → Performed ℕ
+    from v w s m = perform v (operand w s) m
+
+    source : ℕ → Width → Operand → Machine → ℕ
+    source v w s m = loaded w (from v w s m .machine .memory) (from v w s m .value)
+
+    to : ℕ → Width → Operand → Operand → Machine → Performed ℕ
+    to v w s d m = perform v (operand w d) (from v w s m .machine)
+
+-- ABS reads its operand, and stores it only where it is negative.
+abbrev pub Abs-in-order : Type 0
+Abs-in-order =
+    (v a : ℕ) (m : Machine)
+    → accesses v (single-effect Abs a) m
+    ≡ was-read Word a ∷ (if bit 15 (loaded Word (m .memory) a) then (was-written Word a (absolute (loaded Word (m .memory) a) 0 .value) ∷ []) else [])
 
 -- where register n of the workspace is that a vector leads to
 abbrev pub new-register : ℕ → ℕ → Machine → ℕ

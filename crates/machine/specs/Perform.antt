@@ -11,6 +11,7 @@ use Rattle.machine.specs.declared.State.{State}
 use Rattle.machine.specs.State.{Machine, registers, with-wp, with-pc, with-st, with-flags, with-psi}
 use Rattle.machine.specs.Micro.{Target, to-wp, to-pc, to-st, to-flags, Micro, done, look, assign, fetch, read, write, sense, drive}
 
+-- a microprogram's value, and the machine after it
 pub record Performed (A : Type 0) : Type 0 where
   pub value : A
   pub machine : Machine
@@ -22,6 +23,7 @@ performed a m = record { value = a; machine = m }
 abbrev pub even : ℕ → ℕ
 even x = x / 2 * 2 % 65536
 
+-- a register loaded; ST keeps all 16 bits, the flags are two
 abbrev pub assigned : Target → ℕ → State → State
 assigned to-wp x s = with-wp (even x) s
 assigned to-pc x s = with-pc (even x) s
@@ -44,6 +46,7 @@ after-sense v b m = record { state = with-psi (Cru.sensed (m .state .psi) v b .p
 abbrev pub after-drive : CruBit → Bool → Machine → Machine
 after-drive b x m = record { state = with-psi (Cru.driven (m .state .psi) b x) (m .state); memory = m .memory }
 
+-- what a microprogram does to a machine, access by access
 unfoldable pub perform : {A : Type 0} → ℕ → Micro A → Machine → Performed A
 perform v (done a) m = record { value = a; machine = m }
 perform v (look k) m = perform v (k (registers (m .state))) m

@@ -19,7 +19,7 @@ no-sample = 1
 abbrev pub blank : State
 blank = record { wp = 0; pc = 0; st = 0; flags = 0; psi = Own.blank }
 
--- WP and PC are even, flags at most 3, and the PSI's fields in order.
+-- A state is well formed if WP and PC are even, flags ≤ 3, and the PSI's fields are in order.
 unfoldable pub well-formed : State → Bool
 well-formed s =
     eqb (s .wp % 2) 0
@@ -37,6 +37,7 @@ pub record Registers : Type 0 where
 abbrev pub registers : State → Registers
 registers s = record { wp = s .wp; pc = s .pc; st = s .st; flags = s .flags }
 
+-- the state and the lent memory's bytes
 pub record Machine : Type 0 where
   pub state : State
   pub memory : List ℕ

@@ -36,7 +36,7 @@ admitted r (level k) =
     else none
 admitted r none = none
 
--- An entry: the context switch, then ST; idle is cleared and no-sample set.
+-- An entry is a whole step: the context switch, which sets no-sample, then ST; interrupt, LOAD and reset clear idle.
 unfoldable pub enter : ℕ → (ℕ → ℕ) → Micro (Unit {0})
 enter vector f = do
   switch vector
@@ -44,7 +44,7 @@ enter vector f = do
   r ← registers
   set to-flags (put idle false (r .flags))
 
--- No entry: no-sample is cleared; an idle machine does nothing more; any other executes one instruction.
+-- No entry: clear no-sample; if idle, nothing more; else execute one instruction.
 unfoldable pub proceed : Micro Kind
 proceed = do
   r ← registers
@@ -69,13 +69,14 @@ entry-status load st = masked 0 st
 entry-status (level k) st = masked (k - 1) st
 entry-status none st = st
 
+-- an entry, or none
 unfoldable pub boundary : Signal → Micro Kind
 boundary reset = enter (vector reset) (entry-status reset) >> done was-reset
 boundary load = enter (vector load) (entry-status load) >> done was-load
 boundary (level k) = enter (vector (level k)) (entry-status (level k)) >> done (was-level k)
 boundary none = proceed
 
--- the machine after the clock has advanced
+-- The clock advances by the record's cycles.
 abbrev pub clocked : ℕ → Machine → Machine
 clocked cycles m = record { state = with-psi (Clock.advanced cycles (m .state .psi)) (m .state); memory = m .memory }
 

@@ -6,9 +6,5 @@ use borrow.Author.Needs.{needs}
 use Rattle.control_ops.proofs.load_mask.Statement.{statement}
 use Rattle.control_ops.proofs.load_mask.Tie as tie
 
-returns : tie.Need-returns
-unfolding load-mask
-returns c v = rw (perform-bind, c .before .before .before .fetch .ensures v) (c .set-status .ensures v _ _ (sym (c .before .masked .ensures)))
-
 pub load-mask-spec : {M : Type 1} → statement M
-load-mask-spec = tie.close (tie.spec (λ c κs. search needs) (λ c κs. search needs) (λ c κs. search needs) returns)
+load-mask-spec = tie.close (tie.spec (λ c κs. search needs) (λ c κs. search needs) (λ c κs. search needs) (λ c v. unfold load-mask in (rw (perform-bind, c .before .before .before .fetch .ensures v) (c .set-status .ensures v _ _ (sym (c .before .masked .ensures))))))

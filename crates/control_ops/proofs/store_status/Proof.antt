@@ -5,9 +5,5 @@ use borrow.Author.Needs.{needs}
 use Rattle.control_ops.proofs.store_status.Statement.{statement}
 use Rattle.control_ops.proofs.store_status.Tie as tie
 
-returns : tie.Need-returns
-unfolding store-status
-returns c v = rw (perform-bind, perform-registers) (c .before .before .set-register .ensures v)
-
 pub store-status-spec : {M : Type 1} → statement M
-store-status-spec = tie.close (tie.spec (λ c κs. search needs) (λ c. search needs) returns)
+store-status-spec = tie.close (tie.spec (λ c κs. search needs) (λ c. search needs) (λ c v. unfold store-status in (rw (perform-bind, perform-registers) (c .before .before .set-register .ensures v))))

@@ -5,9 +5,5 @@ use borrow.Author.Needs.{needs}
 use Rattle.control_ops.proofs.store_workspace.Statement.{statement}
 use Rattle.control_ops.proofs.store_workspace.Tie as tie
 
-returns : tie.Need-returns
-unfolding store-workspace
-returns c v = rw (perform-bind, perform-registers) (c .before .before .set-register .ensures v)
-
 pub store-workspace-spec : {M : Type 1} → statement M
-store-workspace-spec = tie.close (tie.spec (λ c κs. search needs) (λ c. search needs) returns)
+store-workspace-spec = tie.close (tie.spec (λ c κs. search needs) (λ c. search needs) (λ c v. unfold store-workspace in (rw (perform-bind, perform-registers) (c .before .before .set-register .ensures v))))

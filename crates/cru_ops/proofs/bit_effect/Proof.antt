@@ -5,18 +5,6 @@ use borrow.Author.Needs.{needs}
 use Rattle.cru_ops.proofs.bit_effect.Statement.{statement}
 use Rattle.cru_ops.proofs.bit_effect.Tie as tie
 
-returns : tie.Need-returns
-unfolding bit-effect
-returns c m = rw (c .before .enum-told .given .1) (c .drive .ensures _ m)
-
-returns-2 : tie.Need-returns-2
-unfolding bit-effect
-returns-2 c m = rw (c .before .enum-told2 .given .1) (c .drive2 .ensures _ m)
-
-returns-3 : tie.Need-returns-3
-unfolding bit-effect
-returns-3 c m = rw (c .before .before .before .enum-told3 .given .1, perform-bind, c .before .before .sense .ensures m) (c .set-equal .ensures _ m)
-
 pub bit-effect-spec : {M : Type 1} → statement M
 bit-effect-spec =
     tie.close
@@ -28,6 +16,6 @@ bit-effect-spec =
     (λ c. search needs)
     (λ c κs. search needs)
     (λ c κs. search needs)
-    returns
-    returns-2
-    returns-3)
+    (λ c m. unfold bit-effect in (rw (c .before .enum-told .given .1) (c .drive .ensures _ m)))
+    (λ c m. unfold bit-effect in (rw (c .before .enum-told2 .given .1) (c .drive2 .ensures _ m)))
+    (λ c m. unfold bit-effect in (rw (c .before .before .before .enum-told3 .given .1, perform-bind, c .before .before .sense .ensures m) (c .set-equal .ensures _ m))))

@@ -5,9 +5,5 @@ use borrow.Author.Needs.{needs}
 use Rattle.cru_ops.proofs.cru_base.Statement.{statement}
 use Rattle.cru_ops.proofs.cru_base.Tie as tie
 
-returns : tie.Need-returns
-unfolding cru-base
-returns c v = rw (perform-bind, c .before .before .register .ensures v, perform-done, c .bit .ensures)
-
 pub cru-base-spec : {M : Type 1} → statement M
-cru-base-spec = tie.close (tie.spec (λ c κs. search needs) (λ c κs. search needs) returns)
+cru-base-spec = tie.close (tie.spec (λ c κs. search needs) (λ c κs. search needs) (λ c v. unfold cru-base in (rw (perform-bind, c .before .before .register .ensures v, perform-done, c .bit .ensures))))

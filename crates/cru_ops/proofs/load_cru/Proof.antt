@@ -6,9 +6,6 @@ use borrow.Author.Needs.{needs}
 use Rattle.cru_ops.proofs.load_cru.Statement.{statement}
 use Rattle.cru_ops.proofs.load_cru.Tie as tie
 
-same-length : tie.Need-same-length
-same-length c = c .before .before .before .before .before .before .before .before .before .before .before .before .before .address .kept .0
-
 returns : tie.Need-returns
 unfolding load-cru
 returns c v =
@@ -39,5 +36,5 @@ load-cru-spec =
     (λ c κs. search needs)
     (λ c κs. search needs)
     (λ c κs. search needs)
-    same-length
+    (λ c. c .before .before .before .before .before .before .before .before .before .before .before .before .before .address .kept .0)
     returns)

@@ -5,17 +5,6 @@ use borrow.Author.Needs.{needs}
 use Rattle.cru_ops.proofs.transfer.Statement.{statement}
 use Rattle.cru_ops.proofs.transfer.Tie as tie
 
-store-cru-requires : tie.Need-store-cru-requires
-store-cru-requires c κs = (search needs, rw (c .before .before .before .amount .ensures) (amount-fits _))
-
-returns : tie.Need-returns
-unfolding transfer
-returns c = rw (c .before .before .before .before .enum-told .given .1, ← c .before .before .before .before .before .before .amount .ensures) (c .before .before .load-cru .ensures _)
-
-returns-2 : tie.Need-returns-2
-unfolding transfer
-returns-2 c = rw (c .before .before .before .before .enum-told2 .given .1, ← c .before .before .before .before .before .before .amount .ensures) (c .before .before .store-cru .ensures)
-
 pub transfer-spec : {M : Type 1} → statement M
 transfer-spec =
     tie.close
@@ -24,8 +13,8 @@ transfer-spec =
     (λ c. search needs)
     (λ c κs. search needs)
     (λ c. search needs)
-    store-cru-requires
+    (λ c κs. (search needs, rw (c .before .before .before .amount .ensures) (amount-fits _)))
     (λ c. search needs)
-    returns
+    (λ c. unfold transfer in (rw (c .before .before .before .before .enum-told .given .1, ← c .before .before .before .before .before .before .amount .ensures) (c .before .before .load-cru .ensures _)))
     (λ c. search needs)
-    returns-2)
+    (λ c. unfold transfer in (rw (c .before .before .before .before .enum-told2 .given .1, ← c .before .before .before .before .before .before .amount .ensures) (c .before .before .store-cru .ensures))))

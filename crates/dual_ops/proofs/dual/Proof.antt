@@ -5,10 +5,6 @@ use borrow.Author.Needs.{needs}
 use Rattle.dual_ops.proofs.dual.Statement.{statement}
 use Rattle.dual_ops.proofs.dual.Tie as tie
 
-returns : tie.Need-returns
-unfolding dual
-returns c v = rw (perform-bind, c .before .before .before .before .before .before .before .before .before .before .before .before .before .before .before .address .ensures v, perform-bind, c .before .before .before .before .before .before .before .before .before .before .load .ensures v, perform-bind, c .before .before .before .before .before .before .before .address2 .ensures v) (c .before .before .dual-effect .ensures v)
-
 pub dual-spec : {M : Type 1} → statement M
 dual-spec =
     tie.close
@@ -18,4 +14,4 @@ dual-spec =
     (λ c κs. search needs)
     (λ c κs. search needs)
     (λ c. search needs)
-    returns)
+    (λ c v. unfold dual in (rw (perform-bind, c .before .before .before .before .before .before .before .before .before .before .before .before .before .before .before .address .ensures v, perform-bind, c .before .before .before .before .before .before .before .before .before .before .load .ensures v, perform-bind, c .before .before .before .before .before .before .before .address2 .ensures v) (c .before .before .dual-effect .ensures v))))

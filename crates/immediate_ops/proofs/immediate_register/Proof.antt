@@ -5,26 +5,6 @@ use borrow.Author.Needs.{needs}
 use Rattle.immediate_ops.proofs.immediate_register.Statement.{statement}
 use Rattle.immediate_ops.proofs.immediate_register.Tie as tie
 
-returns : tie.Need-returns
-unfolding immediate-register
-returns c v = rw (c .enum-told .given .1) (perform-done v _ _)
-
-returns-2 : tie.Need-returns-2
-unfolding immediate-register
-returns-2 c v = rw (c .before .enum-told2 .given .1) (c .register .ensures v)
-
-returns-3 : tie.Need-returns-3
-unfolding immediate-register
-returns-3 c v = rw (c .before .enum-told3 .given .1) (c .register2 .ensures v)
-
-returns-4 : tie.Need-returns-4
-unfolding immediate-register
-returns-4 c v = rw (c .before .enum-told4 .given .1) (c .register3 .ensures v)
-
-returns-5 : tie.Need-returns-5
-unfolding immediate-register
-returns-5 c v = rw (c .before .enum-told5 .given .1) (c .register4 .ensures v)
-
 pub immediate-register-spec : {M : Type 1} → statement M
 immediate-register-spec =
     tie.close
@@ -38,8 +18,8 @@ immediate-register-spec =
     (λ c κs. search needs)
     (λ c. search needs)
     (λ c κs. search needs)
-    returns
-    returns-2
-    returns-3
-    returns-4
-    returns-5)
+    (λ c v. unfold immediate-register in (rw (c .enum-told .given .1) (perform-done v _ _)))
+    (λ c v. unfold immediate-register in (rw (c .before .enum-told2 .given .1) (c .register .ensures v)))
+    (λ c v. unfold immediate-register in (rw (c .before .enum-told3 .given .1) (c .register2 .ensures v)))
+    (λ c v. unfold immediate-register in (rw (c .before .enum-told4 .given .1) (c .register3 .ensures v)))
+    (λ c v. unfold immediate-register in (rw (c .before .enum-told5 .given .1) (c .register4 .ensures v))))

@@ -5,13 +5,5 @@ use borrow.Author.Needs.{needs}
 use Rattle.jump_ops.proofs.jump.Statement.{statement}
 use Rattle.jump_ops.proofs.jump.Tie as tie
 
-returns : tie.Need-returns
-unfolding jump
-returns c v m = rw (perform-bind, perform-registers, ← c .before .before .before .jumps .ensures, c .before .before .if1 .taken, ← c .before .target .ensures) (c .set-pc .ensures v m)
-
-returns-2 : tie.Need-returns-2
-unfolding jump
-returns-2 c v m = rw (perform-bind, perform-registers, ← c .before .jumps .ensures, c .if1 .left, perform-done)
-
 pub jump-spec : {M : Type 1} → statement M
-jump-spec = tie.close (tie.spec (λ c κs. search needs) (λ c κs. search needs) (λ c κs. search needs) returns returns-2)
+jump-spec = tie.close (tie.spec (λ c κs. search needs) (λ c κs. search needs) (λ c κs. search needs) (λ c v m. unfold jump in (rw (perform-bind, perform-registers, ← c .before .before .before .jumps .ensures, c .before .before .if1 .taken, ← c .before .target .ensures) (c .set-pc .ensures v m))) (λ c v m. unfold jump in (rw (perform-bind, perform-registers, ← c .before .jumps .ensures, c .if1 .left, perform-done))))

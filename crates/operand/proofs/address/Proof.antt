@@ -6,34 +6,18 @@ use borrow.Author.Needs.{needs}
 use Rattle.operand.proofs.address.Statement.{statement}
 use Rattle.operand.proofs.address.Tie as tie
 
-returns : tie.Need-returns
-unfolding operand
-returns c v = simp (eq-eqb _ _ (c .before .if1 .taken)) (rw (perform-bind, perform-registers, perform-done, c .register-at .ensures))
-
-returns-2 : tie.Need-returns-2
-unfolding operand
-returns-2 c v = simp (ne-eqb _ _ (c .before .before .before .if1 .left), eq-eqb _ _ (c .before .before .if2 .taken)) (c .register .ensures v)
-
-returns-3 : tie.Need-returns-3
-unfolding operand
-returns-3 c v = simp (ne-eqb _ _ (c .before .before .before .before .if1 .left), ne-eqb _ _ (c .before .before .before .if2 .left), eq-eqb _ _ (c .before .before .if3 .taken)) (c .indexed .ensures v)
-
-returns-4 : tie.Need-returns-4
-unfolding operand
-returns-4 c v = simp (ne-eqb _ _ (c .before .before .before .before .before .before .if1 .left), ne-eqb _ _ (c .before .before .before .before .before .if2 .left), ne-eqb _ _ (c .before .before .before .before .if3 .left)) (c .before .before .stepped .ensures v)
-
 pub address-spec : {M : Type 1} → statement M
 address-spec =
     tie.close
     (tie.spec
     (λ c κs. search needs)
-    returns
+    (λ c v. unfold operand in (simp (eq-eqb _ _ (c .before .if1 .taken)) (rw (perform-bind, perform-registers, perform-done, c .register-at .ensures))))
     (λ c κs. search needs)
     (λ c. search needs)
-    returns-2
+    (λ c v. unfold operand in (simp (ne-eqb _ _ (c .before .before .before .if1 .left), eq-eqb _ _ (c .before .before .if2 .taken)) (c .register .ensures v)))
     (λ c κs. search needs)
     (λ c. search needs)
-    returns-3
+    (λ c v. unfold operand in (simp (ne-eqb _ _ (c .before .before .before .before .if1 .left), ne-eqb _ _ (c .before .before .before .if2 .left), eq-eqb _ _ (c .before .before .if3 .taken)) (c .indexed .ensures v)))
     (λ c κs. search needs)
     (λ c. search needs)
-    returns-4)
+    (λ c v. unfold operand in (simp (ne-eqb _ _ (c .before .before .before .before .before .before .if1 .left), ne-eqb _ _ (c .before .before .before .before .before .if2 .left), ne-eqb _ _ (c .before .before .before .before .if3 .left)) (c .before .before .stepped .ensures v))))

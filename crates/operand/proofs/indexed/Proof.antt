@@ -9,15 +9,7 @@ use borrow.Author.Needs.{needs}
 use Rattle.operand.proofs.indexed.Statement.{statement}
 use Rattle.operand.proofs.indexed.Tie as tie
 
-returns : tie.Need-returns
-unfolding indexed
-returns c v = rw (perform-bind, c .before .before .fetch .ensures v, eq-eqb _ _ (c .if1 .taken), perform-done, add-zero, mod-eq-of-lt (let h : c .before .before .fetch .result .value < 65536 = omega arith in h))
-
-returns-2 : tie.Need-returns-2
-unfolding indexed
-returns-2 c v = rw (perform-bind, c .before .before .before .before .before .fetch .ensures v, ne-eqb _ _ (c .before .before .before .if1 .left), perform-bind, c .before .before .register .ensures v, perform-done, c .wrapping-add-u16 .ensures)
-
 pub indexed-spec : {M : Type 1} → statement M
 indexed-spec =
     tie.close
-    (tie.spec (λ c κs. search needs) returns (λ c κs. search needs) (λ c κs. search needs) returns-2)
+    (tie.spec (λ c κs. search needs) (λ c v. unfold indexed in (rw (perform-bind, c .before .before .fetch .ensures v, eq-eqb _ _ (c .if1 .taken), perform-done, add-zero, mod-eq-of-lt (let h : c .before .before .fetch .result .value < 65536 = omega arith in h)))) (λ c κs. search needs) (λ c κs. search needs) (λ c v. unfold indexed in (rw (perform-bind, c .before .before .before .before .before .fetch .ensures v, ne-eqb _ _ (c .before .before .before .if1 .left), perform-bind, c .before .before .register .ensures v, perform-done, c .wrapping-add-u16 .ensures))))

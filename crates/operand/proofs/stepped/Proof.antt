@@ -5,10 +5,6 @@ use borrow.Author.Needs.{needs}
 use Rattle.operand.proofs.stepped.Statement.{statement}
 use Rattle.operand.proofs.stepped.Tie as tie
 
-returns : tie.Need-returns
-unfolding stepped
-returns c v = rw (perform-bind, c .before .before .before .before .before .before .before .register .ensures v, ← c .before .before .before .before .before .bytes .ensures, ← c .before .before .before .before .wrapping-add-u16 .ensures, perform-bind, c .before .before .set-register .ensures v, perform-done)
-
 pub stepped-spec : {M : Type 1} → statement M
 stepped-spec =
     tie.close
@@ -18,4 +14,4 @@ stepped-spec =
     (λ c κs. search needs)
     (λ c κs. search needs)
     (λ c. search needs)
-    returns)
+    (λ c v. unfold stepped in (rw (perform-bind, c .before .before .before .before .before .before .before .register .ensures v, ← c .before .before .before .before .before .bytes .ensures, ← c .before .before .before .before .wrapping-add-u16 .ensures, perform-bind, c .before .before .set-register .ensures v, perform-done))))

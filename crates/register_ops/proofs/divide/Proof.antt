@@ -9,14 +9,6 @@ use borrow.Author.Needs.{needs}
 use Rattle.register_ops.proofs.divide.Statement.{statement}
 use Rattle.register_ops.proofs.divide.Tie as tie
 
-returns : tie.Need-returns
-unfolding divide
-returns c v = rw (perform-bind, c .before .before .before .before .register .ensures v, le-leb _ _ (c .before .before .if1 .taken)) (c .set-status .ensures v _ _ (sym (c .before .put .ensures)))
-
-returns-2 : tie.Need-returns-2
-unfolding divide
-returns-2 c v = rw (perform-bind, c .before .before .before .before .before .before .before .before .before .before .before .before .before .register .ensures v, lt-leb _ _ (c .before .before .before .before .before .before .before .before .before .before .before .if1 .left), ← register-wraps, ← c .before .before .before .before .before .before .before .before .before .wrapping-add-u16 .ensures, perform-bind, c .before .before .before .before .before .before .before .before .register2 .ensures v, perform-bind, c .before .before .before .before .before .set-status2 .ensures v _ _ (sym (c .before .before .before .before .before .before .put2 .ensures)), ← c .before .before .before .divided .ensures) (c .before .before .set-pair .ensures v)
-
 pub divide-spec : {M : Type 1} → statement M
 divide-spec =
     tie.close
@@ -25,7 +17,7 @@ divide-spec =
     (λ c κs. search needs)
     (λ c κs. search needs)
     (λ c. search needs)
-    returns
+    (λ c v. unfold divide in (rw (perform-bind, c .before .before .before .before .register .ensures v, le-leb _ _ (c .before .before .if1 .taken)) (c .set-status .ensures v _ _ (sym (c .before .put .ensures)))))
     (λ c κs. search needs)
     (λ c κs. search needs)
     (λ c κs. search needs)
@@ -33,4 +25,4 @@ divide-spec =
     (λ c κs. search needs)
     (λ c κs. search needs)
     (λ c. search needs)
-    returns-2)
+    (λ c v. unfold divide in (rw (perform-bind, c .before .before .before .before .before .before .before .before .before .before .before .before .before .register .ensures v, lt-leb _ _ (c .before .before .before .before .before .before .before .before .before .before .before .if1 .left), ← register-wraps, ← c .before .before .before .before .before .before .before .before .before .wrapping-add-u16 .ensures, perform-bind, c .before .before .before .before .before .before .before .before .register2 .ensures v, perform-bind, c .before .before .before .before .before .set-status2 .ensures v _ _ (sym (c .before .before .before .before .before .before .put2 .ensures)), ← c .before .before .before .divided .ensures) (c .before .before .set-pair .ensures v))))

@@ -5,10 +5,6 @@ use borrow.Author.Needs.{needs}
 use Rattle.register_ops.proofs.exclusive_or.Statement.{statement}
 use Rattle.register_ops.proofs.exclusive_or.Tie as tie
 
-returns : tie.Need-returns
-unfolding register-effect
-returns c v = rw (perform-bind, c .before .before .before .before .before .before .before .register .ensures v, perform-bind, perform-registers, ← c .before .before .before .before .before .exclusive .ensures, ← c .before .before .before .register-at .ensures) (c .before .before .conclude-judged .ensures v)
-
 pub exclusive-or-spec : {M : Type 1} → statement M
 exclusive-or-spec =
     tie.close
@@ -18,4 +14,4 @@ exclusive-or-spec =
     (λ c κs. search needs)
     (λ c κs. search needs)
     (λ c. search needs)
-    returns)
+    (λ c v. unfold register-effect in (rw (perform-bind, c .before .before .before .before .before .before .before .register .ensures v, perform-bind, perform-registers, ← c .before .before .before .before .before .exclusive .ensures, ← c .before .before .before .register-at .ensures) (c .before .before .conclude-judged .ensures v))))

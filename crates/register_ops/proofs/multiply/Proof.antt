@@ -5,10 +5,6 @@ use borrow.Author.Needs.{needs}
 use Rattle.register_ops.proofs.multiply.Statement.{statement}
 use Rattle.register_ops.proofs.multiply.Tie as tie
 
-returns : tie.Need-returns
-unfolding register-effect
-returns c v = rw (perform-bind, c .before .before .before .before .before .before .register .ensures v, ← c .before .before .before .before .product .ensures) (c .before .before .set-pair .ensures v)
-
 pub multiply-spec : {M : Type 1} → statement M
 multiply-spec =
-    tie.close (tie.spec (λ c κs. search needs) (λ c κs. search needs) (λ c κs. search needs) (λ c. search needs) returns)
+    tie.close (tie.spec (λ c κs. search needs) (λ c κs. search needs) (λ c κs. search needs) (λ c. search needs) (λ c v. unfold register-effect in (rw (perform-bind, c .before .before .before .before .before .before .register .ensures v, ← c .before .before .before .before .product .ensures) (c .before .before .set-pair .ensures v))))

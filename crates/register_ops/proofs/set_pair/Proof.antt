@@ -6,10 +6,6 @@ use borrow.Author.Needs.{needs}
 use Rattle.register_ops.proofs.set_pair.Statement.{statement}
 use Rattle.register_ops.proofs.set_pair.Tie as tie
 
-returns : tie.Need-returns
-unfolding set-pair
-returns c v = rw (perform-bind, c .before .before .before .before .before .before .before .set-register .ensures v, ← set-register-wraps, ← c .before .before .before .wrapping-add-u16 .ensures) (c .before .before .set-register2 .ensures v)
-
 pub set-pair-spec : {M : Type 1} → statement M
 set-pair-spec =
     tie.close
@@ -18,4 +14,4 @@ set-pair-spec =
     (λ c κs. search needs)
     (λ c κs. search needs)
     (λ c. search needs)
-    returns)
+    (λ c v. unfold set-pair in (rw (perform-bind, c .before .before .before .before .before .before .before .set-register .ensures v, ← set-register-wraps, ← c .before .before .before .wrapping-add-u16 .ensures) (c .before .before .set-register2 .ensures v))))

@@ -5,10 +5,6 @@ use borrow.Author.Needs.{needs}
 use Rattle.register_ops.proofs.with_register.Statement.{statement}
 use Rattle.register_ops.proofs.with_register.Tie as tie
 
-returns : tie.Need-returns
-unfolding with-register
-returns c v = rw (perform-bind, c .before .before .before .before .before .before .before .before .before .before .address .ensures v, perform-bind, c .before .before .before .before .before .load .ensures v) (c .before .before .register-effect .ensures v)
-
 pub with-register-spec : {M : Type 1} → statement M
 with-register-spec =
-    tie.close (tie.spec (λ c κs. search needs) (λ c κs. search needs) (λ c κs. search needs) (λ c. search needs) returns)
+    tie.close (tie.spec (λ c κs. search needs) (λ c κs. search needs) (λ c κs. search needs) (λ c. search needs) (λ c v. unfold with-register in (rw (perform-bind, c .before .before .before .before .before .before .before .before .before .before .address .ensures v, perform-bind, c .before .before .before .before .before .load .ensures v) (c .before .before .register-effect .ensures v))))

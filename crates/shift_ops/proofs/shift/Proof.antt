@@ -6,10 +6,6 @@ use borrow.Author.Needs.{needs}
 use Rattle.shift_ops.proofs.shift.Statement.{statement}
 use Rattle.shift_ops.proofs.shift.Tie as tie
 
-returns : tie.Need-returns
-unfolding shift
-returns c v = rw (perform-bind, c .before .before .before .before .before .before .before .before .before .before .register .ensures v, perform-bind, c .before .before .before .before .before .before .before .shift-count .ensures v, perform-bind, perform-registers, ← c .before .before .before .register-at .ensures) (c .before .before .conclude .ensures v _ (sym (c .before .before .before .before .before .shifted .ensures)))
-
 pub shift-spec : {M : Type 1} → statement M
 shift-spec =
     tie.close
@@ -20,4 +16,4 @@ shift-spec =
     (λ c κs. search needs)
     (λ c κs. search needs)
     (λ c. search needs)
-    returns)
+    (λ c v. unfold shift in (rw (perform-bind, c .before .before .before .before .before .before .before .before .before .before .register .ensures v, perform-bind, c .before .before .before .before .before .before .before .shift-count .ensures v, perform-bind, perform-registers, ← c .before .before .before .register-at .ensures) (c .before .before .conclude .ensures v _ (sym (c .before .before .before .before .before .shifted .ensures))))))

@@ -6,13 +6,5 @@ use borrow.Author.Needs.{needs}
 use Rattle.shift_ops.proofs.shift_count.Statement.{statement}
 use Rattle.shift_ops.proofs.shift_count.Tie as tie
 
-returns : tie.Need-returns
-unfolding shift-count
-returns c v = simp (eq-eqb _ _ (c .before .if1 .taken)) (c .register .ensures v)
-
-returns-2 : tie.Need-returns-2
-unfolding shift-count
-returns-2 c v = simp (ne-eqb _ _ (c .if1 .left)) (perform-done v _ _)
-
 pub shift-count-spec : {M : Type 1} → statement M
-shift-count-spec = tie.close (tie.spec (λ c κs. search needs) returns returns-2)
+shift-count-spec = tie.close (tie.spec (λ c κs. search needs) (λ c v. unfold shift-count in (simp (eq-eqb _ _ (c .before .if1 .taken)) (c .register .ensures v))) (λ c v. unfold shift-count in (simp (ne-eqb _ _ (c .if1 .left)) (perform-done v _ _))))

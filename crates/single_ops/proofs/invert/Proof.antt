@@ -5,11 +5,7 @@ use borrow.Author.Needs.{needs}
 use Rattle.single_ops.proofs.invert.Statement.{statement}
 use Rattle.single_ops.proofs.invert.Tie as tie
 
-returns : tie.Need-returns
-unfolding single-effect
-returns c v = rw (perform-bind, c .before .before .before .before .before .before .load .ensures v, ← c .before .before .before .before .inverted .ensures) (c .before .before .conclude-judged .ensures v)
-
 pub invert-spec : {M : Type 1} → statement M
 invert-spec =
     tie.close
-    (tie.spec (λ c κs. search needs) (λ c κs. search needs) (λ c κs. search needs) (λ c. search needs) returns)
+    (tie.spec (λ c κs. search needs) (λ c κs. search needs) (λ c κs. search needs) (λ c. search needs) (λ c v. unfold single-effect in (rw (perform-bind, c .before .before .before .before .before .before .load .ensures v, ← c .before .before .before .before .inverted .ensures) (c .before .before .conclude-judged .ensures v))))

@@ -5,9 +5,5 @@ use borrow.Author.Needs.{needs}
 use Rattle.single_ops.proofs.link.Statement.{statement}
 use Rattle.single_ops.proofs.link.Tie as tie
 
-returns : tie.Need-returns
-unfolding single-effect
-returns c v = rw (perform-bind, perform-registers, perform-bind, c .before .before .before .before .set-pc .ensures v _) (c .before .before .set-register .ensures v)
-
 pub link-spec : {M : Type 1} → statement M
-link-spec = tie.close (tie.spec (λ c κs. search needs) (λ c κs. search needs) (λ c. search needs) returns)
+link-spec = tie.close (tie.spec (λ c κs. search needs) (λ c κs. search needs) (λ c. search needs) (λ c v. unfold single-effect in (rw (perform-bind, perform-registers, perform-bind, c .before .before .before .before .set-pc .ensures v _) (c .before .before .set-register .ensures v))))

@@ -6,10 +6,6 @@ use borrow.Author.Needs.{needs}
 use Rattle.single_ops.proofs.make_absolute.Statement.{statement}
 use Rattle.single_ops.proofs.make_absolute.Tie as tie
 
-returns : tie.Need-returns
-unfolding single-effect
-returns c v = rw (perform-bind, c .before .before .before .before .before .before .before .load .ensures v, perform-bind, c .before .before .before .before .set-status .ensures v _ (λ st. absolute (c .before .before .before .before .before .before .before .load .result .value) st .st) (rw (← c .before .before .before .before .before .absolute .ensures))) (c .before .before .store-absolute .ensures v)
-
 pub make-absolute-spec : {M : Type 1} → statement M
 make-absolute-spec =
     tie.close
@@ -19,4 +15,4 @@ make-absolute-spec =
     (λ c κs. search needs)
     (λ c κs. search needs)
     (λ c. search needs)
-    returns)
+    (λ c v. unfold single-effect in (rw (perform-bind, c .before .before .before .before .before .before .before .load .ensures v, perform-bind, c .before .before .before .before .set-status .ensures v _ (λ st. absolute (c .before .before .before .before .before .before .before .load .result .value) st .st) (rw (← c .before .before .before .before .before .absolute .ensures))) (c .before .before .store-absolute .ensures v))))

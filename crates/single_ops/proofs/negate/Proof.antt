@@ -6,10 +6,6 @@ use borrow.Author.Needs.{needs}
 use Rattle.single_ops.proofs.negate.Statement.{statement}
 use Rattle.single_ops.proofs.negate.Tie as tie
 
-returns : tie.Need-returns
-unfolding single-effect
-returns c v = rw (perform-bind, c .before .before .before .before .before .before .load .ensures v) (c .before .before .conclude .ensures v _ (sym (c .before .before .before .before .negated .ensures)))
-
 pub negate-spec : {M : Type 1} → statement M
 negate-spec =
-    tie.close (tie.spec (λ c κs. search needs) (λ c κs. search needs) (λ c κs. search needs) (λ c. search needs) returns)
+    tie.close (tie.spec (λ c κs. search needs) (λ c κs. search needs) (λ c κs. search needs) (λ c. search needs) (λ c v. unfold single-effect in (rw (perform-bind, c .before .before .before .before .before .before .load .ensures v) (c .before .before .conclude .ensures v _ (sym (c .before .before .before .before .negated .ensures))))))

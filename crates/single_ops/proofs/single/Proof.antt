@@ -5,9 +5,5 @@ use borrow.Author.Needs.{needs}
 use Rattle.single_ops.proofs.single.Statement.{statement}
 use Rattle.single_ops.proofs.single.Tie as tie
 
-returns : tie.Need-returns
-unfolding single
-returns c v = rw (perform-bind, c .before .before .before .before .before .before .before .address .ensures v) (c .before .before .single-effect .ensures v)
-
 pub single-spec : {M : Type 1} → statement M
-single-spec = tie.close (tie.spec (λ c κs. search needs) (λ c κs. search needs) (λ c. search needs) returns)
+single-spec = tie.close (tie.spec (λ c κs. search needs) (λ c κs. search needs) (λ c. search needs) (λ c v. unfold single in (rw (perform-bind, c .before .before .before .before .before .before .before .address .ensures v) (c .before .before .single-effect .ensures v))))

@@ -9,15 +9,7 @@ use borrow.Author.Needs.{needs}
 use Rattle.single_ops.proofs.store_absolute.Statement.{statement}
 use Rattle.single_ops.proofs.store_absolute.Tie as tie
 
-returns : tie.Need-returns
-unfolding store-absolute absolute
-returns c v = let e : c .before .before .before .wrapping-sub-u16 .result ≡ (65536 - c .before .before .before .before .before .before .before .before .args .x) % 65536 = omega arith in rw (← c .before .before .before .before .before .before .bit .ensures, c .before .before .before .before .before .if1 .taken, ← e) (c .before .before .store .ensures v)
-
-returns-2 : tie.Need-returns-2
-unfolding store-absolute
-returns-2 c v = rw (← c .before .bit .ensures, c .if1 .left) (perform-done v _ _)
-
 pub store-absolute-spec : {M : Type 1} → statement M
 store-absolute-spec =
     tie.close
-    (tie.spec (λ c κs. search needs) (λ c κs. search needs) (λ c κs. search needs) (λ c. search needs) returns returns-2)
+    (tie.spec (λ c κs. search needs) (λ c κs. search needs) (λ c κs. search needs) (λ c. search needs) (λ c v. unfold store-absolute absolute in (let e : c .before .before .before .wrapping-sub-u16 .result ≡ (65536 - c .before .before .before .before .before .before .before .before .args .x) % 65536 = omega arith in rw (← c .before .before .before .before .before .before .bit .ensures, c .before .before .before .before .before .if1 .taken, ← e) (c .before .before .store .ensures v))) (λ c v. unfold store-absolute in (rw (← c .before .bit .ensures, c .if1 .left) (perform-done v _ _))))

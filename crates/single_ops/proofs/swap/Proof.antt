@@ -5,9 +5,5 @@ use borrow.Author.Needs.{needs}
 use Rattle.single_ops.proofs.swap.Statement.{statement}
 use Rattle.single_ops.proofs.swap.Tie as tie
 
-returns : tie.Need-returns
-unfolding single-effect
-returns c v = rw (perform-bind, c .before .before .before .before .before .before .load .ensures v, ← c .before .before .before .before .swapped .ensures) (c .before .before .store .ensures v)
-
 pub swap-spec : {M : Type 1} → statement M
-swap-spec = tie.close (tie.spec (λ c κs. search needs) (λ c κs. search needs) (λ c κs. search needs) (λ c. search needs) returns)
+swap-spec = tie.close (tie.spec (λ c κs. search needs) (λ c κs. search needs) (λ c κs. search needs) (λ c. search needs) (λ c v. unfold single-effect in (rw (perform-bind, c .before .before .before .before .before .before .load .ensures v, ← c .before .before .before .before .swapped .ensures) (c .before .before .store .ensures v))))

@@ -3,8 +3,5 @@ use borrow.Author.Needs.{needs}
 use Rattle.machine.proofs.State.blank.Statement.{statement}
 use Rattle.machine.proofs.State.blank.Tie as tie
 
-returns : tie.Need-returns
-returns c = rw (c .blank .ensures)
-
 pub blank-spec : {M : Type 1} → statement M
-blank-spec = tie.close (tie.spec (λ c κs. search needs) returns)
+blank-spec = tie.close (tie.spec (λ c κs. search needs) (λ c. rw (c .blank .ensures)))

@@ -5,9 +5,5 @@ use borrow.Author.Needs.{needs}
 use Rattle.machine.proofs.bus.drive.Statement.{statement}
 use Rattle.machine.proofs.bus.drive.Tie as tie
 
-returns : tie.Need-returns
-unfolding perform Micro.driven
-returns c v m = rw (c .drive .ensures)
-
 pub drive-spec : {M : Type 1} → statement M
-drive-spec = tie.close (tie.spec (λ c κs. search needs) returns)
+drive-spec = tie.close (tie.spec (λ c κs. search needs) (λ c v m. unfold perform Micro.driven in (rw (c .drive .ensures))))

@@ -5,9 +5,5 @@ use borrow.Author.Needs.{needs}
 use Rattle.machine.proofs.bus.fetch.Statement.{statement}
 use Rattle.machine.proofs.bus.fetch.Tie as tie
 
-returns : tie.Need-returns
-unfolding perform Micro.fetched
-returns c v = rw (c .before .load .ensures, c .wrapping-add-u16 .ensures)
-
 pub fetch-spec : {M : Type 1} → statement M
-fetch-spec = tie.close (tie.spec (λ c κs. search needs) (λ c κs. search needs) returns)
+fetch-spec = tie.close (tie.spec (λ c κs. search needs) (λ c κs. search needs) (λ c v. unfold perform Micro.fetched in (rw (c .before .load .ensures, c .wrapping-add-u16 .ensures))))

@@ -5,9 +5,5 @@ use borrow.Author.Needs.{needs}
 use Rattle.machine.proofs.bus.load.Statement.{statement}
 use Rattle.machine.proofs.bus.load.Tie as tie
 
-returns : tie.Need-returns
-unfolding perform Micro.load
-returns c v = rw (c .load .ensures)
-
 pub load-spec : {M : Type 1} → statement M
-load-spec = tie.close (tie.spec (λ c κs. search needs) returns)
+load-spec = tie.close (tie.spec (λ c κs. search needs) (λ c v. unfold perform Micro.load in (rw (c .load .ensures))))

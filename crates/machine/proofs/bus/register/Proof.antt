@@ -6,9 +6,5 @@ use borrow.Author.Needs.{needs}
 use Rattle.machine.proofs.bus.register.Statement.{statement}
 use Rattle.machine.proofs.bus.register.Tie as tie
 
-returns : tie.Need-returns
-unfolding perform Micro.registers Micro.load register
-returns c v = rw (← c .before .register-at .ensures) (c .load .ensures v)
-
 pub register-spec : {M : Type 1} → statement M
-register-spec = tie.close (tie.spec (λ c κs. search needs) (λ c κs. search needs) returns)
+register-spec = tie.close (tie.spec (λ c κs. search needs) (λ c κs. search needs) (λ c v. unfold perform Micro.registers Micro.load register in (rw (← c .before .register-at .ensures) (c .load .ensures v))))

@@ -5,9 +5,5 @@ use borrow.Author.Needs.{needs}
 use Rattle.machine.proofs.bus.sense.Statement.{statement}
 use Rattle.machine.proofs.bus.sense.Tie as tie
 
-returns : tie.Need-returns
-unfolding perform Micro.sensed
-returns c m = rw (c .before .sense .ensures)
-
 pub sense-spec : {M : Type 1} → statement M
-sense-spec = tie.close (tie.spec (λ c κs. search needs) returns)
+sense-spec = tie.close (tie.spec (λ c κs. search needs) (λ c m. unfold perform Micro.sensed in (rw (c .before .sense .ensures))))

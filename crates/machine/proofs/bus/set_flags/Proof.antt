@@ -5,9 +5,5 @@ use Rattle.machine.specs.Perform.{perform}
 use Rattle.machine.proofs.bus.set_flags.Statement.{statement}
 use Rattle.machine.proofs.bus.set_flags.Tie as tie
 
-returns : tie.Need-returns
-unfolding perform Micro.set
-returns c v m = refl
-
 pub set-flags-spec : {M : Type 1} → statement M
-set-flags-spec = tie.close (tie.spec returns)
+set-flags-spec = tie.close (tie.spec (λ c v m. unfold perform Micro.set in (refl)))

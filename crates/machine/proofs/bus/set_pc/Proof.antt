@@ -8,9 +8,5 @@ use borrow.Author.Needs.{needs}
 use Rattle.machine.proofs.bus.set_pc.Statement.{statement}
 use Rattle.machine.proofs.bus.set_pc.Tie as tie
 
-returns : tie.Need-returns
-unfolding perform Micro.set
-returns c v m = rw (mod-eq-of-lt (let h : c .args .value / 2 * 2 < 65536 = omega arith in h))
-
 pub set-pc-spec : {M : Type 1} → statement M
-set-pc-spec = tie.close (tie.spec (λ c. search needs) returns)
+set-pc-spec = tie.close (tie.spec (λ c. search needs) (λ c v m. unfold perform Micro.set in (rw (mod-eq-of-lt (let h : c .args .value / 2 * 2 < 65536 = omega arith in h)))))

@@ -6,9 +6,5 @@ use borrow.Author.Needs.{needs}
 use Rattle.machine.proofs.bus.set_register.Statement.{statement}
 use Rattle.machine.proofs.bus.set_register.Tie as tie
 
-returns : tie.Need-returns
-unfolding perform Micro.registers Micro.store set-register
-returns c v = rw (← c .before .before .before .register-at .ensures) (c .before .before .store .ensures v)
-
 pub set-register-spec : {M : Type 1} → statement M
-set-register-spec = tie.close (tie.spec (λ c κs. search needs) (λ c κs. search needs) (λ c. search needs) returns)
+set-register-spec = tie.close (tie.spec (λ c κs. search needs) (λ c κs. search needs) (λ c. search needs) (λ c v. unfold perform Micro.registers Micro.store set-register in (rw (← c .before .before .before .register-at .ensures) (c .before .before .store .ensures v))))

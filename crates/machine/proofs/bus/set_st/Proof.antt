@@ -5,9 +5,5 @@ use Rattle.machine.specs.Perform.{perform}
 use Rattle.machine.proofs.bus.set_st.Statement.{statement}
 use Rattle.machine.proofs.bus.set_st.Tie as tie
 
-returns : tie.Need-returns
-unfolding perform Micro.set
-returns c v m = rw (mod-eq-of-lt (c .fits .value .fits))
-
 pub set-st-spec : {M : Type 1} → statement M
-set-st-spec = tie.close (tie.spec returns)
+set-st-spec = tie.close (tie.spec (λ c v m. unfold perform Micro.set in (rw (mod-eq-of-lt (c .fits .value .fits)))))

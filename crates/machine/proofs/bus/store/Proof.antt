@@ -5,9 +5,5 @@ use borrow.Author.Needs.{needs}
 use Rattle.machine.proofs.bus.store.Statement.{statement}
 use Rattle.machine.proofs.bus.store.Tie as tie
 
-returns : tie.Need-returns
-unfolding perform Micro.store
-returns c v = rw (c .before .before .store .ensures)
-
 pub store-spec : {M : Type 1} → statement M
-store-spec = tie.close (tie.spec (λ c κs. search needs) (λ c. search needs) returns)
+store-spec = tie.close (tie.spec (λ c κs. search needs) (λ c. search needs) (λ c v. unfold perform Micro.store in (rw (c .before .before .store .ensures))))

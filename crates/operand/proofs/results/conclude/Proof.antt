@@ -5,9 +5,5 @@ use borrow.Author.Needs.{needs}
 use Rattle.operand.proofs.results.conclude.Statement.{statement}
 use Rattle.operand.proofs.results.conclude.Tie as tie
 
-returns : tie.Need-returns
-unfolding conclude
-returns c v f e = rw (perform-bind, perform-registers, e, perform-bind, c .before .before .before .before .set-st .ensures v _, c .before .before .store .ensures v)
-
 pub conclude-spec : {M : Type 1} → statement M
-conclude-spec = tie.close (tie.spec (λ c κs. search needs) (λ c κs. search needs) (λ c. search needs) returns)
+conclude-spec = tie.close (tie.spec (λ c κs. search needs) (λ c κs. search needs) (λ c. search needs) (λ c v f e. unfold conclude in (rw (perform-bind, perform-registers, e, perform-bind, c .before .before .before .before .set-st .ensures v _, c .before .before .store .ensures v))))

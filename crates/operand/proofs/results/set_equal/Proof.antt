@@ -5,9 +5,5 @@ use borrow.Author.Needs.{needs}
 use Rattle.operand.proofs.results.set_equal.Statement.{statement}
 use Rattle.operand.proofs.results.set_equal.Tie as tie
 
-returns : tie.Need-returns
-unfolding set-equal
-returns c v m = c .set-status .ensures v m _ (sym (c .before .put .ensures))
-
 pub set-equal-spec : {M : Type 1} → statement M
-set-equal-spec = tie.close (tie.spec (λ c κs. search needs) (λ c κs. search needs) returns)
+set-equal-spec = tie.close (tie.spec (λ c κs. search needs) (λ c κs. search needs) (λ c v m. unfold set-equal in (c .set-status .ensures v m _ (sym (c .before .put .ensures)))))
