@@ -3,5 +3,3 @@ pub mod Words
 pub mod Parts
 pub mod Written
 pub mod Accepted
-pub mod Read
-pub mod Claims

@@ -1,13 +1,12 @@
--- Parts of lists, zeros after a list, and lists put together of equal parts. A list that is padded with zeros has the same elements,
--- since an element past the end counts as 0.
+-- Parts of lists, and lists put together of equal parts.
 use Prim.Native.Nat.{ℕ, zero, suc, min, _+_, _-_, _*_, _<_, _≤_}
 use mathlib.Core.Path.{_≡_, refl, sym, ap, _∙_}
 use mathlib.Core.List.{List, [], _∷_, _++_, append-assoc, append-nil}
 use native.Mathlib.Omega.{arith}
 use native.Mathlib.Nat.{add-zero, mul-zero}
-use lib.ListN.{length, getD, take, drop, replicate, length-append, length-take, length-drop, length-replicate, drop-of-length-le}
+use lib.ListN.{length, take, drop, replicate, length-append, length-take, length-drop, length-replicate, drop-of-length-le}
 use borrow.Rule.Slice.PartMut.{putMid}
-use lib.Seq.{length-take-le, take-length, take-nil, take-all, take-add, drop-drop, take-at, drop-at, drop-append-add, getD-take, getD-drop, ext-getD}
+use lib.Seq.{length-take-le, take-length, take-nil, take-all, take-add, drop-drop, take-at, drop-at, drop-append-add}
 use Rattle.image.specs.Image.{padded}
 
 pub drop-take : (a n : ℕ) (l : List ℕ) → drop a (take n l) ≡ take (n - a) (drop a l)
@@ -31,50 +30,9 @@ drop-replicate zero n = rw (let e : n - zero ≡ n = omega arith in e)
 drop-replicate (suc k) zero = rw (let e : zero - suc k ≡ zero = omega arith in e)
 drop-replicate (suc k) (suc n) = rw (let e : suc n - suc k ≡ n - k = omega arith in e) (drop-replicate k n)
 
--- zeros after a list
-
-getD-zeros : (n i : ℕ) → _≡_ {A = ℕ} (getD (replicate n 0) i 0) 0
-getD-zeros zero i = refl
-getD-zeros (suc n) zero = refl
-getD-zeros (suc n) (suc i) = getD-zeros n i
-
-getD-then-zeros : (l : List ℕ) (n i : ℕ) → getD (l ++ replicate n 0) i 0 ≡ getD l i 0
-getD-then-zeros [] n i = getD-zeros n i
-getD-then-zeros (x ∷ l) n zero = refl
-getD-then-zeros (x ∷ l) n (suc i) = getD-then-zeros l n i
-
-pub getD-padded : (n : ℕ) (l : List ℕ) (i : ℕ) → getD (padded n l) i 0 ≡ getD l i 0
-unfolding padded
-getD-padded n l i = getD-then-zeros l (n - length l) i
-
 pub length-padded : (n : ℕ) (l : List ℕ) → length l ≤ n → length (padded n l) ≡ n
 unfolding padded
 length-padded n l h = simp (length-append, length-replicate) (omega arith)
-
--- a list that is long enough is not padded
-pub padded-whole : (n : ℕ) (l : List ℕ) → n ≤ length l → padded n l ≡ l
-unfolding padded
-padded-whole n l h = rw (let e : n - length l ≡ 0 = omega arith in e) (append-nil l)
-
-length-part : (k a : ℕ) (l : List ℕ) → length (take k (drop a l)) ≡ min k (length l - a)
-length-part k a l = simp (length-take, length-drop)
-
--- a part of a padded list is the part, padded
-pub padded-part : (n a k : ℕ) (l : List ℕ) → length l ≤ n → a + k ≤ n → take k (drop a (padded n l)) ≡ padded k (take k (drop a l))
-padded-part n a k l h f =
-    let long : length (take k (drop a (padded n l))) ≡ k = rw (length-part k a (padded n l), length-padded n l h) (omega arith) in
-    let short : length (take k (drop a l)) ≤ k = rw (length-part k a l) (omega arith) in
-    ext-getD 0 (take k (drop a (padded n l))) (padded k (take k (drop a l)))
-    (long ∙ sym (length-padded k (take k (drop a l)) short))
-    (λ i j. let below : i < k = omega arith in
-    rw (
-      getD-padded k (take k (drop a l)) i,
-      getD-take k (drop a (padded n l)) i 0 below,
-      getD-drop a (padded n l) i 0,
-      getD-padded n l (a + i),
-      getD-take k (drop a l) i 0 below,
-      getD-drop a l i 0,
-    ))
 
 -- lists put together of equal parts
 
@@ -82,14 +40,6 @@ padded-part n a k l h f =
 abbrev pub joined : (ℕ → List ℕ) → ℕ → ℕ → List ℕ
 joined f zero i = []
 joined f (suc k) i = f i ++ joined f k (i + 1)
-
-pub joined-same : (f g : ℕ → List ℕ) (k i : ℕ) → ((j : ℕ) → i ≤ j → j < i + k → f j ≡ g j) → joined f k i ≡ joined g k i
-joined-same f g zero i h = refl
-joined-same f g (suc k) i h = rw (h i (omega arith) (omega arith), joined-same f g k (i + 1) (λ j l m. h j (omega arith) (omega arith)))
-
-pub joined-shift : (f : ℕ → List ℕ) (k i : ℕ) → joined f k (i + 1) ≡ joined (λ j. f (j + 1)) k i
-joined-shift f zero i = refl
-joined-shift f (suc k) i = ap (λ (l : List ℕ). f (i + 1) ++ l) (joined-shift f k (i + 1))
 
 pub joined-last : (f : ℕ → List ℕ) (k i : ℕ) → joined f (suc k) i ≡ joined f k i ++ f (i + k)
 joined-last f zero i = rw (add-zero i) (append-nil (f i))
@@ -111,18 +61,6 @@ joined-part n f (suc k) i (suc j) h l =
     let past : n * suc j ≡ length (f i) + n * j = omega (arith, h i (omega arith)) in
     rw (past, drop-append-add (f i) (joined f k (i + 1)) (n * j), let e : i + suc j ≡ i + 1 + j = omega arith in e)
     (joined-part n f k (i + 1) j (λ p m. h p (omega arith)) (omega arith))
-
--- a list is its parts put together
-pub joined-parts : (n : ℕ) (l : List ℕ) (k i : ℕ) → joined (λ j. take n (drop (n * j) l)) k i ≡ take (n * k) (drop (n * i) l)
-joined-parts n l zero i = rw (mul-zero n)
-joined-parts n l (suc k) i =
-    rw (
-      joined-parts n l k (i + 1),
-      let e : n * suc k ≡ n + n * k = omega arith in e,
-      take-add n (n * k) (drop (n * i) l),
-      drop-drop n (n * i) l,
-      let e : n * (i + 1) ≡ n * i + n = omega arith in e,
-    )
 
 -- a list that is copied part by part over another: the part from `from` up to `to` is copied next
 pub grown :

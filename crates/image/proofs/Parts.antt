@@ -85,7 +85,7 @@ memory-length img h = length-take-le 16384 (contents-of img 33 1) (omega (arith,
 -- what a block carries of the memory lies behind its number
 pub memory-part :
     (img : List ℕ) (i k : ℕ) → length img ≡ image-size → i < 33 → k ≤ 508 → 508 * i + k ≤ 16384
-    → take k (drop (508 * i) (memory-of img)) ≡ take k (drop (512 * i + 514) img)
+    → take k (drop (508 * i) (memory-of img)) ≡ take k (drop (512 * (i + 1) + 2) img)
 unfolding memory-of
 memory-part img i k h l b f =
     let all = contents-of img 33 1 in
@@ -94,7 +94,6 @@ memory-part img i k h l b f =
     ∙ sym (take-take k 508 (drop (508 * i) all) b)
     ∙ ap (take k) (contents-part img i h l ∙ content-lies img (i + 1))
     ∙ take-take k 508 (drop (512 * (i + 1) + 2) img) b
-    ∙ rw (let e : 512 * (i + 1) + 2 ≡ 512 * i + 514 = omega arith in e)
 
 pub filler-lies : (img : List ℕ) → length img ≡ image-size → filler-of img ≡ take 480 (drop 30 img) ++ take 380 (drop 17026 img)
 unfolding filler-of

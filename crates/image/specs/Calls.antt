@@ -8,15 +8,12 @@ use Rattle.bits.specs.Bits.{if_then_else_}
 use Rattle.memory.specs.Memory.{size}
 use Rattle.machine.specs.declared.State.{State}
 use Rattle.machine.specs.State.{blank, well-formed}
+use Rattle.image.specs.declared.Fault.{Fault}
 use Rattle.image.specs.declared.ReadAnswer.{ReadAnswer}
 use Rattle.image.specs.declared.WriteAnswer.{WriteAnswer}
 use Rattle.image.specs.Image as Image
 
--- a refusal's number, and the block that it names; 0 where there is none
-pub record Fault : Type 0 where
-  pub number : ℕ
-  pub block : ℕ
-
+-- a refusal that names no block
 abbrev pub fault : ℕ → Fault
 fault n = record { number = n; block = 0 }
 

@@ -4,6 +4,7 @@ use mathlib.Core.Bool.{Bool, true, _&&_}
 use mathlib.Core.List.{List, [], _∷_, _++_}
 use lib.ListN.{length, getD, take, drop, replicate}
 use lib.Dec.{eqb}
+use Rattle.psi.specs.declared.Psi.{Psi}
 use Rattle.machine.specs.declared.State.{State}
 use Rattle.memory.specs.Memory.{size}
 
@@ -15,10 +16,21 @@ block-size = 512
 
 -- what a block carries besides its number and its check word
 abbrev pub content-size : ℕ
-content-size = 508
+content-size = block-size - 4
+
+-- where a block's check word begins
+abbrev pub check-at : ℕ
+check-at = block-size - 2
 
 abbrev pub image-size : ℕ
-image-size = 17408
+image-size = block-count * block-size
+
+-- the blocks that carry memory, and how much they could carry
+abbrev pub page-count : ℕ
+page-count = block-count - 1
+
+abbrev pub page-bytes : ℕ
+page-bytes = page-count * content-size
 
 -- the two bytes of a word, the high one first
 abbrev pub word-bytes : ℕ → List ℕ
@@ -47,6 +59,13 @@ format = 0x9901
 
 abbrev pub edition : ℕ
 edition = 1
+
+-- the fields of block 0: format, edition, WP, PC, ST, flags, and then the PSI's eight
+abbrev pub psi-field : ℕ
+psi-field = 6
+
+abbrev pub field-count : ℕ
+field-count = psi-field + 8
 
 -- The fields of block 0, after format and edition.
 unfoldable pub fields : State → List ℕ
@@ -88,30 +107,28 @@ contents-of img zero i = []
 contents-of img (suc k) i = content-of img i ++ contents-of img k (i + 1)
 
 unfoldable pub memory-of : List ℕ → List ℕ
-memory-of img = take size (contents-of img 33 1)
+memory-of img = take size (contents-of img page-count 1)
 
 -- field n of block 0, counted from the format word
 unfoldable pub field-of : List ℕ → ℕ → ℕ
 field-of img n = word-at (content-of img 0) (2 * n)
 
+unfoldable pub psi-of : List ℕ → Psi
+psi-of img =
+    record {
+      mask = field-of img psi-field;
+      direction = field-of img (psi-field + 1);
+      latch = field-of img (psi-field + 2);
+      load = field-of img (psi-field + 3);
+      decrementer = field-of img (psi-field + 4);
+      reading = field-of img (psi-field + 5);
+      phase = field-of img (psi-field + 6);
+      pending = field-of img (psi-field + 7);
+    }
+
 unfoldable pub state-of : List ℕ → State
 state-of img =
-    record {
-      wp = field-of img 2;
-      pc = field-of img 3;
-      st = field-of img 4;
-      flags = field-of img 5;
-      psi = record {
-        mask = field-of img 6;
-        direction = field-of img 7;
-        latch = field-of img 8;
-        load = field-of img 9;
-        decrementer = field-of img 10;
-        reading = field-of img 11;
-        phase = field-of img 12;
-        pending = field-of img 13;
-      };
-    }
+    record { wp = field-of img 2; pc = field-of img 3; st = field-of img 4; flags = field-of img 5; psi = psi-of img }
 
 unfoldable pub zeros : List ℕ → Bool
 zeros [] = true
@@ -119,4 +136,4 @@ zeros (b ∷ l) = eqb b 0 && zeros l
 
 -- the rest of block 0, and the bytes of the last block after the memory's last
 unfoldable pub filler-of : List ℕ → List ℕ
-filler-of img = drop 28 (content-of img 0) ++ drop size (contents-of img 33 1)
+filler-of img = drop (2 * field-count) (content-of img 0) ++ drop size (contents-of img page-count 1)

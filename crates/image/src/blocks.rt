@@ -1,33 +1,50 @@
 // Single blocks: made, judged, and taken apart.
 ghost use mathlib.Core.Path.{_≡_};
 ghost use mathlib.Core.List.{List};
-ghost use Prim.Native.Nat.{ℕ, suc, min, _*_, _%_, _<_, _≤_};
+ghost use Prim.Native.Nat.{ℕ, suc, min, _+_, _-_, _*_, _%_, _<_, _≤_};
 ghost use lib.ListN.{length, take};
-ghost use Rattle.memory.specs.Memory.{Installed};
+ghost use Rattle.memory.specs.Memory.{Installed, size};
 ghost use Rattle.image.specs.Image as Image;
 ghost use Rattle.image.specs.Calls as Calls;
 ghost use Rattle.image.specs.Blocks as Blocks;
 use machine::State;
 use psi::Psi;
 
-// Sizes in bytes: of a block, of what it carries besides its number and its check word, of an image, of the memory.
+// The bytes of a block: its number, its content, and from `CHECK` on its check word.
 pub const BLOCK_SIZE: usize = 512;
 
-pub const CONTENT_SIZE: usize = 508;
+pub const CONTENT: usize = 2;
 
-pub const IMAGE_SIZE: usize = 17408;
+pub const CHECK: usize = BLOCK_SIZE - 2;
 
-pub const MEMORY_SIZE: usize = 16384;
+pub const CONTENT_SIZE: usize = CHECK - CONTENT;
 
-// The blocks of an image, and the last of them.
+// The blocks of an image, the last of them, and the bytes of all.
 pub const BLOCKS: usize = 34;
 
-pub const LAST: usize = 33;
+pub const LAST: usize = BLOCKS - 1;
 
-// Block 0 begins with these two words.
+pub const IMAGE_SIZE: usize = BLOCKS * BLOCK_SIZE;
+
+// Block 0's content begins with these two words.
 pub const FORMAT: u16 = 0x9901;
 
 pub const EDITION: u16 = 1;
+
+// The fields of block 0, a word each: format, edition, WP, PC, ST and flags, and from `PSI_FIELD` on the PSI's.
+pub const PSI_FIELD: usize = 6;
+
+pub const FIELDS: usize = PSI_FIELD + Psi::WORDS;
+
+// The filler: in block 0 after the fields, and in the last block after the memory's last byte.
+pub const REST: usize = CONTENT + 2 * FIELDS;
+
+pub const TAIL: usize = BLOCK_SIZE * LAST + CONTENT + (memory::SIZE - CONTENT_SIZE * (LAST - 1));
+
+pub const TAIL_END: usize = BLOCK_SIZE * LAST + CHECK;
+
+// A block's words sum to this.
+pub const SUM: u16 = 0xFFFF;
 
 // The sum of the words that the bytes are, modulo 65536.
 fn words_sum(part: &[u8]) -> u16
@@ -58,76 +75,84 @@ pub(crate) fn zeros(part: &[u8]) -> bool
 
 // How many bytes of memory the blocks from 1 to `i` carry.
 pub(crate) fn carried(i: usize) -> usize
-    requires { ⌜ i < 34 ⌝ }
-    ensures { λ r. ⌜ r ≡ min (508 * i) 16384 ⌝ }
+    requires { ⌜ i < Image.block-count ⌝ }
+    ensures { λ r. ⌜ r ≡ min (Image.content-size * i) size ⌝ }
 {
     if i < LAST {
         CONTENT_SIZE * i
     } else {
-        MEMORY_SIZE
+        memory::SIZE
     }
 }
 
 // Puts a word at a byte of a block.
-fn put_word(block: &mut [u8; 512], at: usize, word: u16)
-    requires { ⌜ at < 511 ⌝ }
+fn put_word(block: &mut [u8; BLOCK_SIZE], at: usize, word: u16)
+    requires { ⌜ at < Image.block-size - 1 ⌝ }
     ensures { λ _. ⌜ now (block .exit) ≡ Blocks.put-word (now (block .entry)) at word ⌝ }
 {
     block[at] = (word / 256) as u8;
     block[at + 1] = (word % 256) as u8;
 }
 
+// Puts field `n` into block 0.
+fn put_field(block: &mut [u8; BLOCK_SIZE], n: usize, word: u16)
+    requires { ⌜ n < Image.field-count ⌝ }
+    ensures { λ _. ⌜ now (block .exit) ≡ Blocks.put-word (now (block .entry)) (2 * n + 2) word ⌝ }
+{
+    put_word(block, 2 * n + CONTENT, word);
+}
+
 // Block 0 without its check word.
-fn header(state: State) -> [u8; 512]
+fn header(state: State) -> [u8; BLOCK_SIZE]
     ensures { λ r. ⌜ ((m : List ℕ) → r ≡ Blocks.unchecked state m 0) ⌝ }
 {
-    let mut block = [0u8; 512];
+    let mut block = [0u8; BLOCK_SIZE];
     let psi = state.psi;
-    put_word(&mut block, 2, FORMAT);
-    put_word(&mut block, 4, EDITION);
-    put_word(&mut block, 6, state.wp);
-    put_word(&mut block, 8, state.pc);
-    put_word(&mut block, 10, state.st);
-    put_word(&mut block, 12, state.flags);
-    put_word(&mut block, 14, psi.mask);
-    put_word(&mut block, 16, psi.direction);
-    put_word(&mut block, 18, psi.latch);
-    put_word(&mut block, 20, psi.load);
-    put_word(&mut block, 22, psi.decrementer);
-    put_word(&mut block, 24, psi.reading);
-    put_word(&mut block, 26, psi.phase);
-    put_word(&mut block, 28, psi.pending);
+    put_field(&mut block, 0, FORMAT);
+    put_field(&mut block, 1, EDITION);
+    put_field(&mut block, 2, state.wp);
+    put_field(&mut block, 3, state.pc);
+    put_field(&mut block, 4, state.st);
+    put_field(&mut block, 5, state.flags);
+    put_field(&mut block, PSI_FIELD, psi.mask);
+    put_field(&mut block, PSI_FIELD + 1, psi.direction);
+    put_field(&mut block, PSI_FIELD + 2, psi.latch);
+    put_field(&mut block, PSI_FIELD + 3, psi.load);
+    put_field(&mut block, PSI_FIELD + 4, psi.decrementer);
+    put_field(&mut block, PSI_FIELD + 5, psi.reading);
+    put_field(&mut block, PSI_FIELD + 6, psi.phase);
+    put_field(&mut block, PSI_FIELD + 7, psi.pending);
     block
 }
 
 // Block `i` + 1, which carries memory, without its check word.
-fn page(lent: &[u8], i: usize) -> [u8; 512]
+fn page(lent: &[u8], i: usize) -> [u8; BLOCK_SIZE]
     requires { ⌜ Installed (now lent) ⌝ }
-    requires { ⌜ i < 33 ⌝ }
+    requires { ⌜ i < Image.page-count ⌝ }
     ensures { λ r. ⌜ ((s : State) → r ≡ Blocks.unchecked s (now (lent .entry)) (suc i)) ⌝ }
 {
-    let mut block = [0u8; 512];
+    let mut block = [0u8; BLOCK_SIZE];
     put_word(&mut block, 0, (i + 1) as u16);
     let from = CONTENT_SIZE * i;
     let to = carried(i + 1);
-    bytes::copy(&lent[from..to], &mut block[2..510]);
+    bytes::copy(&lent[from..to], &mut block[CONTENT..CHECK]);
     block
 }
 
 // A block with its check word put in.
-fn checked(block: [u8; 512]) -> [u8; 512]
-    ensures { λ r. ⌜ r ≡ Image.checked (take 510 block) ⌝ }
+fn checked(block: [u8; BLOCK_SIZE]) -> [u8; BLOCK_SIZE]
+    ensures { λ r. ⌜ r ≡ Image.checked (take Image.check-at block) ⌝ }
 {
     let mut made = block;
-    let sum = words_sum(&made[..510]);
-    put_word(&mut made, 510, 65535 - sum);
+    let sum = words_sum(&made[..CHECK]);
+    put_word(&mut made, CHECK, SUM - sum);
     made
 }
 
 // Block `i` of the image.
-pub fn block(state: State, lent: &[u8], i: usize) -> [u8; 512]
+pub fn block(state: State, lent: &[u8], i: usize) -> [u8; BLOCK_SIZE]
     requires { ⌜ Installed (now lent) ⌝ }
-    requires { ⌜ i < 34 ⌝ }
+    requires { ⌜ i < Image.block-count ⌝ }
     ensures { λ r. ⌜ r ≡ Image.block state (now (lent .entry)) i ⌝ }
 {
     if i == 0 {
@@ -140,7 +165,7 @@ pub fn block(state: State, lent: &[u8], i: usize) -> [u8; 512]
 // The refusal that block `i` by itself calls for, or 0: first the check, then the number.
 pub fn block_fault(image: &[u8], i: usize) -> u16
     requires { ⌜ length (now image) ≡ Image.image-size ⌝ }
-    requires { ⌜ i < 34 ⌝ }
+    requires { ⌜ i < Image.block-count ⌝ }
     ensures { λ r. ⌜ r ≡ Calls.block-fault (now (image .entry)) i ⌝ }
 {
     let from = BLOCK_SIZE * i;
@@ -148,7 +173,7 @@ pub fn block_fault(image: &[u8], i: usize) -> u16
     let to = from + BLOCK_SIZE;
     let sum = words_sum(&image[from..to]);
     let number = memory::word(image[from], image[low]) as usize;
-    if sum != 65535 {
+    if sum != SUM {
         return 6;
     }
     if number != i {
@@ -160,11 +185,28 @@ pub fn block_fault(image: &[u8], i: usize) -> u16
 // Word `n` of block 0's content.
 pub(crate) fn field(image: &[u8], n: usize) -> u16
     requires { ⌜ length (now image) ≡ Image.image-size ⌝ }
-    requires { ⌜ n < 254 ⌝ }
+    requires { ⌜ n < Image.field-count ⌝ }
     ensures { λ r. ⌜ r ≡ Image.field-of (now (image .entry)) n ⌝ }
 {
-    let at = 2 * n + 2;
+    let at = 2 * n + CONTENT;
     memory::word(image[at], image[at + 1])
+}
+
+// The PSI that block 0 holds.
+fn psi_of(image: &[u8]) -> Psi
+    requires { ⌜ length (now image) ≡ Image.image-size ⌝ }
+    ensures { λ r. ⌜ r ≡ Image.psi-of (now (image .entry)) ⌝ }
+{
+    let mut psi = Psi::blank();
+    psi.mask = field(image, PSI_FIELD);
+    psi.direction = field(image, PSI_FIELD + 1);
+    psi.latch = field(image, PSI_FIELD + 2);
+    psi.load = field(image, PSI_FIELD + 3);
+    psi.decrementer = field(image, PSI_FIELD + 4);
+    psi.reading = field(image, PSI_FIELD + 5);
+    psi.phase = field(image, PSI_FIELD + 6);
+    psi.pending = field(image, PSI_FIELD + 7);
+    psi
 }
 
 // The state that block 0 holds.
@@ -172,16 +214,7 @@ pub fn state_of(image: &[u8]) -> State
     requires { ⌜ length (now image) ≡ Image.image-size ⌝ }
     ensures { λ r. ⌜ r ≡ Image.state-of (now (image .entry)) ⌝ }
 {
-    let psi = Psi {
-        mask: field(image, 6),
-        direction: field(image, 7),
-        latch: field(image, 8),
-        load: field(image, 9),
-        decrementer: field(image, 10),
-        reading: field(image, 11),
-        phase: field(image, 12),
-        pending: field(image, 13),
-    };
+    let psi = psi_of(image);
     State {
         wp: field(image, 2),
         pc: field(image, 3),

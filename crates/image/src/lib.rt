@@ -4,7 +4,6 @@ ghost use lib.ListN.{length};
 ghost use Rattle.memory.specs.Memory.{Installed};
 ghost use Rattle.image.specs.Image as Image;
 ghost use Rattle.image.specs.Calls as Calls;
-ghost use Rattle.image.specs.Blocks as Blocks;
 use machine::State;
 
 pub mod blocks;
@@ -31,7 +30,7 @@ pub struct Fault {
 // The first block in fault with its refusal, or zeros.
 fn first_fault(image: &[u8]) -> Fault
     requires { ⌜ length (now image) ≡ Image.image-size ⌝ }
-    ensures { λ r. ⌜ Blocks.found r ≡ Calls.first-fault (now (image .entry)) Image.block-count 0 ⌝ }
+    ensures { λ r. ⌜ r ≡ Calls.first-fault (now (image .entry)) Image.block-count 0 ⌝ }
 {
     let mut i = 0;
     while i < blocks::BLOCKS {
@@ -55,10 +54,10 @@ fn filler_clear(image: &[u8]) -> bool
     requires { ⌜ length (now image) ≡ Image.image-size ⌝ }
     ensures { λ r. ⌜ r ≡ Image.zeros (Image.filler-of (now (image .entry))) ⌝ }
 {
-    if !blocks::zeros(&image[30..510]) {
+    if !blocks::zeros(&image[blocks::REST..blocks::CHECK]) {
         return false;
     }
-    blocks::zeros(&image[17026..17406])
+    blocks::zeros(&image[blocks::TAIL..blocks::TAIL_END])
 }
 
 // The refusal that block 0's content or the filler calls for, or 0.
@@ -83,10 +82,10 @@ fn content_fault(image: &[u8]) -> u16
 }
 
 // The refusal that reading this image into this memory calls for.
-fn read_fault(image: &[u8], lent: &[u8]) -> Fault
-    ensures { λ r. ⌜ Blocks.found r ≡ Calls.read-fault (now (image .entry)) (now (lent .entry)) ⌝ }
+fn read_fault(image: &[u8], bytes: &[u8]) -> Fault
+    ensures { λ r. ⌜ r ≡ Calls.read-fault (now (image .entry)) (now (bytes .entry)) ⌝ }
 {
-    if lent.len() != blocks::MEMORY_SIZE {
+    if bytes.len() != memory::SIZE {
         return Fault {
             number: 1,
             block: 0,
@@ -98,9 +97,9 @@ fn read_fault(image: &[u8], lent: &[u8]) -> Fault
             block: 0,
         };
     }
-    let found = first_fault(image);
-    if found.number != 0 {
-        return found;
+    let first = first_fault(image);
+    if first.number != 0 {
+        return first;
     }
     Fault {
         number: content_fault(image),
@@ -119,7 +118,7 @@ fn fill_memory(image: &[u8], lent: &mut [u8])
     while i < blocks::LAST {
         let from = blocks::CONTENT_SIZE * i;
         let to = blocks::carried(i + 1);
-        let start = blocks::BLOCK_SIZE * i + 514;
+        let start = blocks::BLOCK_SIZE * (i + 1) + blocks::CONTENT;
         let end = start + (to - from);
         bytes::copy(&image[start..end], &mut lent[from..to]);
         i += 1;
@@ -150,13 +149,13 @@ pub fn read_image(image: &[u8], bytes: &mut [u8]) -> ReadAnswer
 }
 
 // The refusal that writing this state and memory into this buffer calls for, or 0.
-fn write_fault(state: State, lent: &[u8], image: &[u8]) -> u16
-    ensures { λ r. ⌜ r ≡ Calls.write-fault state (now (lent .entry)) (now (image .entry)) ⌝ }
+fn write_fault(state: State, lent: &[u8], buffer: &[u8]) -> u16
+    ensures { λ r. ⌜ r ≡ Calls.write-fault state (now (lent .entry)) (now (buffer .entry)) ⌝ }
 {
-    if lent.len() != blocks::MEMORY_SIZE {
+    if lent.len() != memory::SIZE {
         return 1;
     }
-    if image.len() != blocks::IMAGE_SIZE {
+    if buffer.len() != blocks::IMAGE_SIZE {
         return 5;
     }
     if !state.well_formed() {
@@ -186,9 +185,12 @@ pub fn write_image(state: State, bytes: &[u8], image: &mut [u8]) -> WriteAnswer
     ensures { λ r. ⌜ r ≡ Calls.write state (now (bytes .entry)) (now (image .entry)) .answer ⌝ }
     ensures { λ _. ⌜ now (image .exit) ≡ Calls.write state (now (bytes .entry)) (now (image .entry)) .image ⌝ }
 {
-    let number = write_fault(state, bytes, &image[..]);
-    if number != 0 {
-        return WriteAnswer { number, state };
+    let refusal = write_fault(state, bytes, &image[..]);
+    if refusal != 0 {
+        return WriteAnswer {
+            number: refusal,
+            state,
+        };
     }
     fill_image(state, bytes, image);
     WriteAnswer { number: 0, state }

@@ -1,18 +1,18 @@
--- `header` meets its contract: fourteen words put into 512 zeros, which computes to the definition's bytes.
+-- `header` meets its contract: fourteen fields put into 512 zeros, which computes to the definition's bytes.
 use Prim.Native.Nat.{ℕ}
 use mathlib.Core.Path.{_≡_, refl}
 use mathlib.Core.List.{List}
 use lib.ListN.{replicate}
-use borrow.Author.Needs.{needs}
 use Rattle.machine.specs.declared.State.{State}
-use Rattle.image.specs.Image.{content, padded, words-bytes, fields}
+use Rattle.image.specs.Image.{block-size, format, edition, content, padded, words-bytes, fields}
 use Rattle.image.specs.Blocks.{put-word, unchecked}
+use borrow.Author.Needs.{needs}
 use Rattle.image.proofs.blocks.header.Statement.{statement}
 use Rattle.image.proofs.blocks.header.Tie as tie
 
--- the words put in one after the other are the definition's bytes
+-- the fields put in one after the other are the definition's bytes
 filled : (s : State) (m : List ℕ) →
-    put-word (put-word (put-word (put-word (put-word (put-word (put-word (put-word (put-word (put-word (put-word (put-word (put-word (put-word (replicate 512 0) 2 0x9901) 4 1) 6 (s .wp)) 8 (s .pc)) 10 (s .st)) 12 (s .flags)) 14 (s .psi .mask)) 16 (s .psi .direction)) 18 (s .psi .latch)) 20 (s .psi .load)) 22 (s .psi .decrementer)) 24 (s .psi .reading)) 26 (s .psi .phase)) 28 (s .psi .pending) ≡ unchecked s m 0
+    put-word (put-word (put-word (put-word (put-word (put-word (put-word (put-word (put-word (put-word (put-word (put-word (put-word (put-word (replicate block-size 0) 2 format) 4 edition) 6 (s .wp)) 8 (s .pc)) 10 (s .st)) 12 (s .flags)) 14 (s .psi .mask)) 16 (s .psi .direction)) 18 (s .psi .latch)) 20 (s .psi .load)) 22 (s .psi .decrementer)) 24 (s .psi .reading)) 26 (s .psi .phase)) 28 (s .psi .pending) ≡ unchecked s m 0
 unfolding put-word unchecked content padded words-bytes fields
 filled s m = refl
 
@@ -32,20 +32,20 @@ returns c m =
     let c2 = c3 .before .before in
     let c1 = c2 .before .before in
     rw (
-      c .put-word14 .ensures,
-      c13 .put-word13 .ensures,
-      c12 .put-word12 .ensures,
-      c11 .put-word11 .ensures,
-      c10 .put-word10 .ensures,
-      c9 .put-word9 .ensures,
-      c8 .put-word8 .ensures,
-      c7 .put-word7 .ensures,
-      c6 .put-word6 .ensures,
-      c5 .put-word5 .ensures,
-      c4 .put-word4 .ensures,
-      c3 .put-word3 .ensures,
-      c2 .put-word2 .ensures,
-      c1 .put-word .ensures,
+      c .put-field14 .ensures,
+      c13 .put-field13 .ensures,
+      c12 .put-field12 .ensures,
+      c11 .put-field11 .ensures,
+      c10 .put-field10 .ensures,
+      c9 .put-field9 .ensures,
+      c8 .put-field8 .ensures,
+      c7 .put-field7 .ensures,
+      c6 .put-field6 .ensures,
+      c5 .put-field5 .ensures,
+      c4 .put-field4 .ensures,
+      c3 .put-field3 .ensures,
+      c2 .put-field2 .ensures,
+      c1 .put-field .ensures,
     ) (filled (c1 .before .before .before .args .state) m)
 
 pub header-spec : {M : Type 1} → statement M
@@ -59,11 +59,18 @@ header-spec =
     (λ c κs. search needs)
     (λ c κs. search needs)
     (λ c κs. search needs)
+    (λ c. search needs)
     (λ c κs. search needs)
+    (λ c. search needs)
     (λ c κs. search needs)
+    (λ c. search needs)
     (λ c κs. search needs)
+    (λ c. search needs)
     (λ c κs. search needs)
+    (λ c. search needs)
     (λ c κs. search needs)
+    (λ c. search needs)
     (λ c κs. search needs)
+    (λ c. search needs)
     (λ c κs. search needs)
     returns)

@@ -12,12 +12,13 @@ use lib.ListN.{length, getD, take, drop, replicate, length-take, length-drop, ta
 use lib.Seq.{take-all, drop-drop, length-take-le}
 use Rattle.memory.specs.Memory.{Bytes}
 use Rattle.machine.specs.declared.State.{State}
-use Rattle.image.specs.Image.{image-size, format, edition, content, words-bytes, fields, word-bytes, word-at, padded, checked, words-sum, zeros, block, image, block-of, content-of, contents-of, memory-of, field-of, state-of, filler-of}
-use Rattle.image.proofs.Lists.{padded-part, joined-parts, joined-same}
-use Rattle.image.proofs.Words.{check-word, words-from, words-back}
+use Rattle.image.specs.Image.{image-size, psi-of, format, edition, content, words-bytes, fields, word-bytes, word-at, padded, checked, words-sum, zeros, block, image, block-of, content-of, contents-of, memory-of, field-of, state-of, filler-of}
+use Rattle.image_claims.specs.Claims.{Sound-block}
+use Rattle.image_claims.proofs.Lists.{padded-part, joined-same, joined-parts}
+use Rattle.image_claims.proofs.Words.{check-word, words-from, words-back}
 use Rattle.image.proofs.Parts.{block-at, content-at, content-of-length, contents-length, contents-part, memory-length, zeros-append}
 use Rattle.image.proofs.Written.{blocks-joined}
-use Rattle.image.proofs.Accepted.{both, Right, right, Sound}
+use Rattle.image_claims.proofs.Accepted.{both, right, Sound}
 
 -- zeros are all alike
 zeros-are : (l : List ℕ) → zeros l ≡ true → l ≡ replicate (length l) 0
@@ -45,7 +46,7 @@ module _ (img : List ℕ) (sized : length img ≡ image-size) (bytes : Bytes img
   block-byte i j l = rw (block-at img i j l) (bytes (512 * i + j))
 
   -- a block in order is its number, its content, and the check word
-  block-apart : (i : ℕ) → i < 34 → Right img i → block-of img i ≡ checked (word-bytes i ++ content-of img i)
+  block-apart : (i : ℕ) → i < 34 → Sound-block img i → block-of img i ≡ checked (word-bytes i ++ content-of img i)
   unfolding content-of words-bytes word-at
   block-apart i l r =
       let b = block-of img i in
@@ -65,7 +66,7 @@ module _ (img : List ℕ) (sized : length img ≡ image-size) (bytes : Bytes img
   -- the contents that would be written are those that were read
 
   header-back : (m : List ℕ) → Sound img → zeros (drop 28 (content-of img 0)) ≡ true → content (state-of img) m 0 ≡ content-of img 0
-  unfolding content fields state-of field-of
+  unfolding content fields state-of psi-of field-of
   header-back m k z =
       let c = content-of img 0 in
       let long : length c ≡ 508 = content-of-length img 0 sized (omega arith) in
@@ -101,12 +102,12 @@ module _ (img : List ℕ) (sized : length img ≡ image-size) (bytes : Bytes img
   content-back k zero l = header-back (memory-of img) k (filler-parts k .0)
   content-back k (suc i) l = page-back (state-of img) i (omega arith) (filler-parts k .1)
 
-  block-back : Sound img → (i : ℕ) → i < 34 → Right img i → block (state-of img) (memory-of img) i ≡ block-of img i
+  block-back : Sound img → (i : ℕ) → i < 34 → Sound-block img i → block (state-of img) (memory-of img) i ≡ block-of img i
   unfolding block
   block-back k i l r = ap (λ (c : List ℕ). checked (word-bytes i ++ c)) (content-back k i l) ∙ sym (block-apart i l r)
 
   -- an image in order is what would be written of the state and the memory that it holds
-  pub image-back : Sound img → ((i : ℕ) → i < 34 → Right img i) → image (state-of img) (memory-of img) ≡ img
+  pub image-back : Sound img → ((i : ℕ) → i < 34 → Sound-block img i) → image (state-of img) (memory-of img) ≡ img
   unfolding image block-of
   image-back k right =
       blocks-joined (state-of img) (memory-of img) 34 0

@@ -1,5 +1,5 @@
 -- What is claimed of the two calls together.
-use Prim.Native.Nat.{ℕ}
+use Prim.Native.Nat.{ℕ, _%_, _<_}
 use mathlib.Core.Path.{_≡_}
 use mathlib.Core.Bool.{true}
 use mathlib.Core.List.{List}
@@ -31,3 +31,22 @@ Writes-what-was-read =
 -- A read is accepted exactly if the table names no refusal.
 abbrev pub Accepted-exactly : Type 0
 Accepted-exactly = (img m : List ℕ) → read img m .answer .number ≡ read-fault img m .number
+
+-- a block in order: its words sum to 65535, and its number is its place
+pub record Sound-block (img : List ℕ) (i : ℕ) : Type 0 where
+  pub sum : Image.words-sum (Image.block-of img i) % 65536 ≡ 65535
+  pub number : Image.word-at (Image.block-of img i) 0 ≡ i
+
+-- The block that refusals 6 and 7 name: its check is wrong, or its check is right and its number wrong; every lower one is in order.
+pub record Lowest (img : List ℕ) (number block : ℕ) : Type 0 where
+  pub there : block < Image.block-count
+  pub check-wrong : number ≡ 6 → Image.words-sum (Image.block-of img block) % 65536 ≡ 65535 → ⊥
+  pub check-right : number ≡ 7 → Image.words-sum (Image.block-of img block) % 65536 ≡ 65535
+  pub number-wrong : number ≡ 7 → Image.word-at (Image.block-of img block) 0 ≡ block → ⊥
+  pub lower : (i : ℕ) → i < block → Sound-block img i
+
+abbrev pub Names-the-lowest : Type 0
+Names-the-lowest =
+    (img m : List ℕ)
+    → 5 < read img m .answer .number → read img m .answer .number < 8
+    → Lowest img (read img m .answer .number) (read img m .answer .block)
