@@ -11,7 +11,7 @@ use Rattle.bits.specs.Bits.{if_then_else_}
 use Rattle.machine.specs.declared.State.{State}
 use Rattle.machine.specs.State.{well-formed}
 use Rattle.memory.specs.Memory.{size}
-use Rattle.image.specs.Image as Image
+use Rattle.image_blocks.specs.Image as Image
 use Rattle.image.specs.declared.Fault.{Fault}
 use Rattle.image.specs.Calls.{fault, first-fault, content-fault, read-fault, write-fault}
 

@@ -9,9 +9,10 @@ use borrow.Author.Tests.{eq-eqb, eqb-true}
 use lib.Dec.{eqb}
 use Rattle.bits.specs.Bits.{if_then_else_}
 use Rattle.machine.specs.State.{well-formed}
-use Rattle.image.specs.Image as Image
+use Rattle.image_blocks.specs.Image as Image
 use Rattle.image.specs.declared.Fault.{Fault}
-use Rattle.image.specs.Calls.{first-fault, block-fault, content-fault}
+use Rattle.image_blocks.specs.Image.{block-fault}
+use Rattle.image.specs.Calls.{first-fault, content-fault}
 use Rattle.image.proofs.Accepted.{passed}
 use Rattle.image_claims.specs.Claims.{Sound-block}
 

@@ -7,8 +7,8 @@ use native.Mathlib.Omega.{arith}
 use native.Mathlib.Nat.{mul-zero}
 use lib.ListN.{length, getD, take, drop, replicate, length-take, length-drop}
 use lib.Seq.{take-add, drop-drop, getD-take, getD-drop, ext-getD}
-use Rattle.image.specs.Image.{padded}
-use Rattle.image.proofs.Lists.{length-padded, joined}
+use Rattle.image_blocks.specs.Image.{padded}
+use Rattle.image_blocks.proofs.Lists.{length-padded, joined}
 
 getD-zeros : (n i : ℕ) → _≡_ {A = ℕ} (getD (replicate n 0) i 0) 0
 getD-zeros zero i = refl

@@ -12,9 +12,10 @@ use lib.Dec.{eqb}
 use Rattle.bits.specs.Bits.{if_then_else_}
 use Rattle.memory.specs.Memory.{size}
 use Rattle.machine.specs.State.{well-formed}
-use Rattle.image.specs.Image as Image
+use Rattle.image_blocks.specs.Image as Image
 use Rattle.image.specs.declared.Fault.{Fault}
-use Rattle.image.specs.Calls.{fault, block-fault, first-fault, content-fault, read-fault}
+use Rattle.image_blocks.specs.Image.{block-fault}
+use Rattle.image.specs.Calls.{fault, first-fault, content-fault, read-fault}
 
 -- a fault found among k blocks from number i on
 pub record Low (img : List ℕ) (k i : ℕ) (f : Fault) : Type 0 where

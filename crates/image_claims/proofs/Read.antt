@@ -12,12 +12,12 @@ use lib.ListN.{length, getD, take, drop, replicate, length-take, length-drop, ta
 use lib.Seq.{take-all, drop-drop, length-take-le}
 use Rattle.memory.specs.Memory.{Bytes}
 use Rattle.machine.specs.declared.State.{State}
-use Rattle.image.specs.Image.{image-size, psi-of, format, edition, content, words-bytes, fields, word-bytes, word-at, padded, checked, words-sum, zeros, block, image, block-of, content-of, contents-of, memory-of, field-of, state-of, filler-of}
+use Rattle.image_blocks.specs.Image.{image-size, psi-of, format, edition, content, words-bytes, fields, word-bytes, word-at, padded, checked, words-sum, zeros, block, image, block-of, content-of, contents-of, memory-of, field-of, state-of, filler-of}
 use Rattle.image_claims.specs.Claims.{Sound-block}
 use Rattle.image_claims.proofs.Lists.{padded-part, joined-same, joined-parts}
 use Rattle.image_claims.proofs.Words.{check-word, words-from, words-back}
-use Rattle.image.proofs.Parts.{block-at, content-at, content-of-length, contents-length, contents-part, memory-length, zeros-append}
-use Rattle.image.proofs.Written.{blocks-joined}
+use Rattle.image_blocks.proofs.Parts.{block-at, content-at, content-of-length, contents-length, contents-part, memory-length, zeros-append}
+use Rattle.image_blocks.proofs.Written.{blocks-joined}
 use Rattle.image_claims.proofs.Accepted.{both, right, Sound}
 
 -- zeros are all alike

@@ -6,7 +6,7 @@ use native.Mathlib.Omega.{arith}
 use native.Mathlib.Nat.{zero-add}
 use lib.ListN.{length, getD, take, drop}
 use lib.Seq.{drop-cons}
-use Rattle.image.specs.Image.{words-sum, word-bytes, words-bytes, word-at, checked}
+use Rattle.image_blocks.specs.Image.{words-sum, word-bytes, words-bytes, word-at, checked}
 
 -- the words of two lists, where the first has whole words alone
 pub sum-append : (k : ℕ) (a b : List ℕ) → length a ≡ 2 * k → words-sum (a ++ b) ≡ words-sum a + words-sum b

@@ -8,7 +8,7 @@ use Rattle.memory.specs.Memory.{size, Bytes}
 use Rattle.machine.specs.declared.State.{State}
 use Rattle.machine.specs.State.{well-formed}
 use Rattle.machine.specs.Laws.{Words}
-use Rattle.image.specs.Image as Image
+use Rattle.image_blocks.specs.Image as Image
 use Rattle.image.specs.Calls.{read, write, read-fault}
 
 -- Reading a written image gives back the state and the memory.

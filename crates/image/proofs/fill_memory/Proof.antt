@@ -6,9 +6,9 @@ use native.Mathlib.Omega.{arith}
 use borrow.Author.Needs.{needs}
 use lib.ListN.{length, take, drop, drop-of-length-le}
 use lib.Seq.{take-all}
-use Rattle.image.specs.Image.{memory-of}
-use Rattle.image.proofs.Lists.{grown, grown-length}
-use Rattle.image.proofs.Parts.{memory-part, memory-length}
+use Rattle.image_blocks.specs.Image.{memory-of}
+use Rattle.image_blocks.proofs.Lists.{grown, grown-length}
+use Rattle.image_blocks.proofs.Parts.{memory-part, memory-length}
 use Rattle.image.proofs.fill_memory.Statement.{statement}
 use Rattle.image.proofs.fill_memory.Tie as tie
 
