@@ -1,12 +1,13 @@
 // The replay on bytes: what the program does between reading its files and writing its output.
 ghost use mathlib.Core.Path.{_≡_};
-ghost use Prim.Native.Nat.{_≤_};
 ghost use lib.ListN.{length};
 ghost use Rattle.io.specs.Counts.{Counts};
 ghost use Rattle.machine.specs.Run as Run;
+ghost use Rattle.image.specs.Calls as Calls;
 ghost use Rattle.replay_files.specs.Pins as Pins;
 ghost use Rattle.replay_files.specs.Line as Line;
 ghost use Rattle.replay_call.specs.Replay as Replay;
+use image::WriteAnswer;
 use machine::RunAnswer;
 use machine::State;
 use replay_files::line;
@@ -37,12 +38,20 @@ fn run_on(state: State, file: &[u8], lent: &mut [u8; memory::SIZE]) -> RunAnswer
     tms_replay::run(lent, state, &records[..n], n, pins::stop(file))
 }
 
-// Replays the image on the pin file, and leaves the image after; a refusal leaves the lent bytes as they were.
-pub fn replay(
-    image: &[u8],
-    file: &[u8],
+// Writes the image of the state and the memory.
+fn write_on(
+    state: State,
+    lent: &[u8; memory::SIZE],
     after: &mut [u8; image_blocks::IMAGE_SIZE],
-) -> Replayed
+) -> WriteAnswer
+    ensures { λ r. ⌜ r ≡ Calls.write state (now (lent .entry)) (now (after .entry)) .answer ⌝ }
+    ensures { λ _. ⌜ now (after .exit) ≡ Calls.write state (now (lent .entry)) (now (after .entry)) .image ⌝ }
+{
+    tms_replay::write_image(state, lent, after)
+}
+
+// Replays the image on the pin file, and leaves the image after; a refusal leaves the lent bytes as they were.
+pub fn replay(image: &[u8], file: &[u8], after: &mut [u8; image_blocks::IMAGE_SIZE]) -> Replayed
     ensures { λ r. ⌜ r .number ≡ Replay.replay (now (image .entry)) (now (file .entry)) (now (after .entry)) .number ⌝ }
     ensures { λ r. ⌜ Counts (r .text .length) (r .text .bytes) ⌝ }
     ensures { λ r. ⌜ Line.Holds (r .text) (Replay.replay (now (image .entry)) (now (file .entry)) (now (after .entry)) .line) ⌝ }
@@ -59,7 +68,7 @@ pub fn replay(
     if answer.number != 0 {
         return told(answer.number, 0, 0, end);
     }
-    let written = tms_replay::write_image(end, &lent, after);
+    let written = write_on(end, &lent, after);
     let kept = written.state;
     if written.number != 0 {
         return told(written.number, 0, 0, kept);

@@ -1,79 +1,95 @@
+-- `replay` meets its contract: read, run and write as the definition has them, and the line of the answer that ends it.
+use Prim.Native.Nat.{ℕ}
+use mathlib.Core.Path.{_≡_, ap, _∙_}
+use mathlib.Core.List.{List}
+use borrow.Author.Tests.{eq-eqb, ne-eqb}
+use Rattle.machine.specs.declared.State.{State}
+use Rattle.image.specs.declared.WriteAnswer.{WriteAnswer}
+use Rattle.image.specs.Calls.{write, write-fault}
+use Rattle.replay_call.specs.Replay.{replay-in}
 use borrow.Author.Needs.{needs}
 use Rattle.replay_call.proofs.replay.Statement.{statement}
 use Rattle.replay_call.proofs.replay.Tie as tie
-use Rattle.replay_call.proofs.replay.Reads as reads
-use Rattle.replay_call.proofs.replay.Lts as lts
-use Rattle.replay_call.proofs.run_on.Reads as run-on-reads
-use Rattle.replay_call.proofs.told.Reads as told-reads
-use Rattle.tms_replay.proofs.read_image.Reads as read-image-reads
-use Rattle.tms_replay.proofs.write_image.Reads as write-image-reads
 
--- src/lib.rt:52:46
-slice-aggregate-read-image : tie.Need-slice-aggregate-read-image
-slice-aggregate-read-image c = search needs
+-- a refused write stores nothing
+refused-image : (s : State) (m img : List ℕ) → (write s m img .answer .number ≡ 0 → ⊥) → write s m img .image ≡ img
+unfolding write
+refused-image s m img h = rw (ne-eqb (write-fault s m img) 0 h)
 
--- src/lib.rt:52:9
-read-image-requires : tie.Need-read-image-requires
-read-image-requires c κs = search needs
-
--- src/lib.rt:55:9
-told-requires : tie.Need-told-requires
-told-requires c κs = search needs
-
--- src/lib.rt:55:9
 returns : tie.Need-returns
-returns c = ?
+unfolding replay-in
+returns c =
+    let read = c .before .before .before .before .before .read-image .ensures in
+    let bad = ne-eqb _ _ (c .before .if1 .taken) in (
+      rw (← read .0, bad) (c .told .ensures .0),
+      (c .told .ensures .1 .0, (rw (← read .0, bad) (c .told .ensures .1 .1), rw (← read .0, bad))),
+    )
 
--- src/lib.rt:57:9
-run-on-requires : tie.Need-run-on-requires
-run-on-requires c κs = search needs
-
--- src/lib.rt:60:9
-told-requires-2 : tie.Need-told-requires-2
-told-requires-2 c κs = search needs
-
--- src/lib.rt:60:9
 returns-2 : tie.Need-returns-2
-returns-2 c = ?
+unfolding replay-in
+returns-2 c =
+    let read = c .before .before .before .before .before .before .before .before .before .before .read-image .ensures in
+    let good = eq-eqb _ _ (c .before .before .before .before .before .before .if1 .left) in
+    let ran = c .before .before .before .before .run-on .ensures in
+    let bad = ne-eqb _ _ (c .before .if2 .taken) in (
+      rw (← read .0, ← read .1, good, ← ran, bad) (c .told2 .ensures .0),
+      (
+        c .told2 .ensures .1 .0,
+        (rw (← read .0, ← read .1, good, ← ran, bad) (c .told2 .ensures .1 .1), rw (← read .0, ← read .1, good, ← ran, bad)),
+      ),
+    )
 
--- src/lib.rt:62:48
-slice-aggregate-write-image : tie.Need-slice-aggregate-write-image
-slice-aggregate-write-image c = ?
-
--- src/lib.rt:62:9
-write-image-requires : tie.Need-write-image-requires
-write-image-requires c κs = search needs
-
--- src/lib.rt:65:9
-told-requires-3 : tie.Need-told-requires-3
-told-requires-3 c κs = search needs
-
--- src/lib.rt:65:9
 returns-3 : tie.Need-returns-3
-returns-3 c = ?
+unfolding replay-in
+returns-3 c =
+    let read = c .before .before .before .before .before .before .before .before .before .before .before .before .before .before .before .before .read-image .ensures in
+    let good = eq-eqb _ _ (c .before .before .before .before .before .before .before .before .before .before .before .before .if1 .left) in
+    let ran = c .before .before .before .before .before .before .before .before .before .before .run-on .ensures in
+    let fine = eq-eqb _ _ (c .before .before .before .before .before .before .before .if2 .left) in
+    let wrote = c .before .before .before .before .write-on .ensures in
+    let bad = ne-eqb _ _ (c .before .if3 .taken) in (
+      rw (← read .0, ← read .1, good, ← ran, fine, ← wrote .0, bad) (c .told3 .ensures .0),
+      (
+        c .told3 .ensures .1 .0,
+        (
+          rw (← read .0, ← read .1, good, ← ran, fine, ← wrote .0, bad) (c .told3 .ensures .1 .1),
+          rw (← read .0, ← read .1, good, ← ran, fine, ← wrote .0, bad) (wrote .1 ∙ refused-image _ _ _ (λ e. c .before .if3 .taken (ap (λ (a : WriteAnswer). a .number) (wrote .0) ∙ e))),
+        ),
+      ),
+    )
 
--- src/lib.rt:67:5
-told-requires-4 : tie.Need-told-requires-4
-told-requires-4 c κs = search needs
-
--- src/lib.rt:41:1
 returns-4 : tie.Need-returns-4
-returns-4 c = ?
+unfolding replay-in
+returns-4 c =
+    let read = c .before .before .before .before .before .before .before .before .before .before .before .before .before .before .before .before .read-image .ensures in
+    let good = eq-eqb _ _ (c .before .before .before .before .before .before .before .before .before .before .before .before .if1 .left) in
+    let ran = c .before .before .before .before .before .before .before .before .before .before .run-on .ensures in
+    let fine = eq-eqb _ _ (c .before .before .before .before .before .before .before .if2 .left) in
+    let wrote = c .before .before .before .before .write-on .ensures in
+    let right = eq-eqb _ _ (c .before .if3 .left) in (
+      rw (← read .0, ← read .1, good, ← ran, fine, ← wrote .0, right) (c .told4 .ensures .0),
+      (
+        c .told4 .ensures .1 .0,
+        (
+          rw (← read .0, ← read .1, good, ← ran, fine, ← wrote .0, right) (c .told4 .ensures .1 .1),
+          rw (← read .0, ← read .1, good, ← ran, fine, ← wrote .0, right) (wrote .1),
+        ),
+      ),
+    )
 
 pub replay-spec : {M : Type 1} → statement M
 replay-spec =
     tie.close
     (tie.spec
-    slice-aggregate-read-image
-    read-image-requires
-    told-requires
+    (λ c. search needs)
+    (λ c κs. search needs)
+    (λ c κs. search needs)
     returns
-    run-on-requires
-    told-requires-2
+    (λ c κs. search needs)
+    (λ c κs. search needs)
     returns-2
-    slice-aggregate-write-image
-    write-image-requires
-    told-requires-3
+    (λ c κs. search needs)
+    (λ c κs. search needs)
     returns-3
-    told-requires-4
+    (λ c κs. search needs)
     returns-4)

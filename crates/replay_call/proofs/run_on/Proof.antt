@@ -1,49 +1,38 @@
+-- `run_on` meets its contract: the records that are taken are the first of the array.
+use Prim.Native.Nat.{ℕ}
+use mathlib.Core.Path.{_≡_, sym, ap, _∙_}
+use mathlib.Core.List.{List, _++_}
+use lib.ListN.{length, take, drop, replicate}
+use lib.Seq.{take-at}
+use Rattle.replay_files.specs.Pins as Pins
 use borrow.Author.Needs.{needs}
 use Rattle.replay_call.proofs.run_on.Statement.{statement}
 use Rattle.replay_call.proofs.run_on.Tie as tie
-use Rattle.replay_call.proofs.run_on.Reads as reads
-use Rattle.replay_call.proofs.run_on.Lts as lts
-use Rattle.replay_files.proofs.pins.record_count.Reads as record-count-reads
-use Rattle.replay_files.proofs.pins.records.Reads as records-reads
-use Rattle.replay_files.proofs.pins.stop.Reads as stop-reads
-use Rattle.tms_replay.proofs.run.Reads as run-reads
 
--- src/lib.rt:35:19
-records-requires : tie.Need-records-requires
-records-requires c κs = search needs
+first :
+    (file all : List ℕ) (n : ℕ) → n ≡ length (Pins.records file) → all ≡ Pins.records file ++ drop (length (Pins.records file)) (replicate Pins.most 0)
+    → take n all ≡ Pins.records file
+first file all n e h =
+    ap (take n) h ∙ take-at (Pins.records file) (drop (length (Pins.records file)) (replicate Pins.most 0)) n (sym e)
 
--- src/lib.rt:36:9
-record-count-requires : tie.Need-record-count-requires
-record-count-requires c κs = search needs
-
--- src/lib.rt:37:34
-array-share-prefix-records : tie.Need-array-share-prefix-records
-array-share-prefix-records c = search needs
-
--- src/lib.rt:37:34
 slice-aggregate-run : tie.Need-slice-aggregate-run
-slice-aggregate-run c = ?
+slice-aggregate-run c =
+    let n = c .before .before .record-count in
+    n .ensures .1 ∙ ap length (sym (first _ _ (n .result) (n .ensures .1) (c .before .before .before .records .ensures)))
 
--- src/lib.rt:37:52
-stop-requires : tie.Need-stop-requires
-stop-requires c κs = search needs
-
--- src/lib.rt:37:5
-run-requires : tie.Need-run-requires
-run-requires c κs = search needs
-
--- src/lib.rt:32:1
 returns : tie.Need-returns
-returns c = ?
+returns c =
+    let n = c .before .before .before .before .record-count in
+    rw (first _ _ (n .result) (n .ensures .1) (c .before .before .before .before .before .records .ensures), n .ensures .1, c .before .stop .ensures) at (c .run .ensures)
 
 pub run-on-spec : {M : Type 1} → statement M
 run-on-spec =
     tie.close
     (tie.spec
-    records-requires
-    record-count-requires
-    array-share-prefix-records
+    (λ c κs. search needs)
+    (λ c κs. search needs)
+    (λ c. search needs)
     slice-aggregate-run
-    stop-requires
-    run-requires
+    (λ c κs. search needs)
+    (λ c κs. search needs)
     returns)

@@ -21,10 +21,10 @@ returns c =
       (
         refl,
         λ t h.
-        record {
-          end = rw (h .end) (sym (length-append t (a .part .now)));
-          bytes = appended t (a .text .bytes) (a .part .now) (c .before .copy .last .1 .0) (a .text .length) to (h .bytes) (h .end) refl (omega arith) copied;
-        },
+            record {
+              end = rw (h .end) (sym (length-append t (a .part .now)));
+              bytes = appended t (a .text .bytes) (a .part .now) (c .before .copy .last .1 .0) (a .text .length) to (h .bytes) (h .end) refl (omega arith) copied;
+            },
       ),
     )
 

@@ -18,13 +18,13 @@ returns c =
       (
         omega arith,
         λ t h.
-        subst (Holds (c .append4 .result)) (regroup t pc-label (hex (a .pc)) wp-label (hex (a .wp)) st-label (hex (a .st)) line-feed)
-        (c .append4 .ensures .1 .1 _
-        (three .append-hex3 .ensures .1 .1 _
-        (three .before .append3 .ensures .1 .1 _
-        (two .append-hex2 .ensures .1 .1 _
-        (two .before .append2 .ensures .1 .1 _
-        (one .append-hex .ensures .1 .1 _ (one .before .append .ensures .1 .1 t h))))))),
+            subst (Holds (c .append4 .result)) (regroup t pc-label (hex (a .pc)) wp-label (hex (a .wp)) st-label (hex (a .st)) line-feed)
+            (c .append4 .ensures .1 .1 _
+            (three .append-hex3 .ensures .1 .1 _
+            (three .before .append3 .ensures .1 .1 _
+            (two .append-hex2 .ensures .1 .1 _
+            (two .before .append2 .ensures .1 .1 _
+            (one .append-hex .ensures .1 .1 _ (one .before .append .ensures .1 .1 t h))))))),
       ),
     )
 
