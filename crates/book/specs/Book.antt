@@ -5,13 +5,10 @@ use mathlib.Core.List.{List, [], _∷_, _++_}
 use lib.Dec.{eqb}
 use lib.ListN.{length}
 use Rattle.bits.specs.Bits.{if_then_else_}
-use Rattle.memory.specs.declared.Width.the-variants.{Word}
-use Rattle.memory.specs.Memory.{touched}
 use Rattle.psi.specs.Pins.{parted}
 use Rattle.machine.specs.declared.Deed.the-variants.{Ordinary, Unassigned, Switched, Returned}
 use Rattle.machine.specs.State.{Machine, at}
 use Rattle.machine.specs.Perform.{Access, accesses, fetches, written}
-use Rattle.machine.specs.Operands.{register-at}
 use Rattle.machine.specs.declared.Kind.{Kind}
 use Rattle.machine.specs.declared.Kind.the-variants.{Reset as was-reset, Load as was-load, Idle as was-idle, Level as was-level, Ran as ran}
 use Rattle.machine.specs.Step.{clocked, stepping, step}
@@ -127,9 +124,3 @@ unfoldable pub all-moments : Machine → Book → List Call → List Moment
 all-moments m b [] = []
 all-moments m b (c ∷ cs) =
     call-moments m b c ++ all-moments (call-machine m c) (book-after b (call-moments m b c)) cs
-
--- the places of an entry's save words: R13 to R15 at its new WP
-unfoldable pub save-places : Note → List ℕ
-save-places n =
-    touched Word (register-at (n .workspace) 13)
-    ++ (touched Word (register-at (n .workspace) 14) ++ touched Word (register-at (n .workspace) 15))

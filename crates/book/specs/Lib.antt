@@ -1,3 +1,2 @@
 pub mod Book
-pub mod Claim
-pub mod Example
+pub mod Examples

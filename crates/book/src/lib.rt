@@ -1,1 +1,1 @@
-// No code: the book of open entries and the theorem about it, in specs/ and proofs/.
+// No code: the book of open entries, and examples of it, in specs/ and proofs/.

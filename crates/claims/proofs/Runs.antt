@@ -6,7 +6,7 @@ use mathlib.Core.Bool.{Bool, true, false}
 use mathlib.Core.List.{List, [], _∷_}
 use native.Mathlib.Omega.{arith}
 use native.Mathlib.Nat.{zero-add, suc-add, add-assoc}
-use borrow.Author.Tests.{eqb-true, eqb-false, eq-eqb, ne-eqb, lt-ltb, le-ltb}
+use borrow.Author.Tests.{eqb-true, eqb-false, eq-eqb, ne-eqb, le-ltb}
 use native.Mathlib.Decide.{decLt}
 use lib.Dec.{eqb}
 use lib.ListN.{length, drop, length-drop}
@@ -15,12 +15,11 @@ use Rattle.psi.proofs.Cases.{either-way}
 use Rattle.psi.proofs.Kept.{kept-formed}
 use Rattle.psi.specs.Pins.{parted}
 use Rattle.machine.specs.declared.State.{State}
-use Rattle.machine.specs.declared.Deed.the-variants.{Ordinary, Unassigned, Switched, Returned}
 use Rattle.machine.specs.State.{Machine, at, well-formed}
 use Rattle.machine.specs.declared.Kind.{Kind}
-use Rattle.machine.specs.declared.Kind.the-variants.{Reset as was-reset, Load as was-load, Idle as was-idle, Level as was-level, Ran as ran}
 use Rattle.machine.specs.Step.{clocked, step}
-use Rattle.machine.specs.Run.{missed, Ran, at-once, one-more, runs, run-refusal, RunResult, run}
+use Rattle.machine.specs.Run.{Ran, at-once, one-more, runs, run-refusal, RunResult, run}
+use Rattle.run_rules.proofs.Laws.{missed-at-most, stopped, goes-on, accepted}
 use Rattle.machine.proofs.Laws.{form, formed, keeps-form, keeps-the-length}
 use Rattle.claims.specs.Runs.{followed, Runs-in-parts, Refused-runs, Accepted-exactly, Steps-at-most, Stops-exactly, Odd-never-stops}
 
@@ -47,19 +46,6 @@ step-fit word m f =
     }
 
 module _ (stop : ℕ) where
-  -- the two clauses of a run, by what the test of the stop address says
-  stopped : (n : ℕ) (rs : List ℕ) (m : Machine) → eqb (m .state .pc) stop ≡ true → runs stop n rs m ≡ at-once m
-  unfolding runs
-  stopped zero rs m e = refl
-  stopped (suc n) [] m e = refl
-  stopped (suc n) (r ∷ rs) m e = rw (e, runs)
-
-  goes-on :
-      (n r : ℕ) (rs : List ℕ) (m : Machine) → eqb (m .state .pc) stop ≡ false
-      → runs stop (suc n) (r ∷ rs) m ≡ one-more (step r m .value) (runs stop n rs (step r m .machine))
-  unfolding runs
-  goes-on n r rs m e = rw (e, runs)
-
   -- why a run does no step more
   data Over : ℕ → List ℕ → Machine → Type 0 where
     enough : {rs : List ℕ} {m : Machine} → Over zero rs m
@@ -74,8 +60,8 @@ module _ (stop : ℕ) where
       → P n rs (step r m .machine) x → P (suc n) (r ∷ rs) m (one-more (step r m .value) x)) where
     either : (b : Bool) (n r : ℕ) (rs : List ℕ) (m : Machine) → eqb (m .state .pc) stop ≡ b
         → P n rs (step r m .machine) (runs stop n rs (step r m .machine)) → P (suc n) (r ∷ rs) m (runs stop (suc n) (r ∷ rs) m)
-    either true n r rs m e p = rw (stopped (suc n) (r ∷ rs) m e) (none _ _ m (at-stop e))
-    either false n r rs m e p = rw (goes-on n r rs m e) (more n r rs m _ e p)
+    either true n r rs m e p = rw (stopped stop (suc n) (r ∷ rs) m e) (none _ _ m (at-stop e))
+    either false n r rs m e p = rw (goes-on stop n r rs m e) (more n r rs m _ e p)
 
     every-run : (n : ℕ) (rs : List ℕ) (m : Machine) → P n rs m (runs stop n rs m)
     unfolding runs
@@ -86,22 +72,11 @@ module _ (stop : ℕ) where
   runs-fit : (n : ℕ) (rs : List ℕ) (m : Machine) → Fit m → Fit (runs stop n rs m .machine)
   runs-fit = every-run (λ n rs m x. Fit m → Fit (x .machine)) (λ n rs m o f. f) (λ n r rs m x e h f. h (step-fit r m f))
 
-  missed-below : (k : Kind) → missed k ≤ 1
-  unfolding missed
-  missed-below was-reset = omega arith
-  missed-below was-load = omega arith
-  missed-below was-idle = omega arith
-  missed-below (was-level k) = omega arith
-  missed-below (ran Ordinary) = omega arith
-  missed-below (ran Unassigned) = omega arith
-  missed-below (ran Switched) = omega arith
-  missed-below (ran Returned) = omega arith
-
   runs-at-most : (n : ℕ) (rs : List ℕ) (m : Machine)
       → (runs stop n rs m .steps ≤ n) × (runs stop n rs m .unassigned ≤ runs stop n rs m .steps)
   runs-at-most =
       every-run (λ n rs m x. (x .steps ≤ n) × (x .unassigned ≤ x .steps)) (λ n rs m o. omega arith)
-      (λ n r rs m x e h. omega (arith, missed-below (step r m .value)))
+      (λ n r rs m x e h. omega (arith, missed-at-most (step r m .value)))
 
 -- a run and then another: counts are summed
 both : Ran → Ran → Ran
@@ -228,24 +203,11 @@ runs-in-parts m s records a b stop h =
       | unfit k ne all ↦ in-parts-unfit (at s m) records a b stop h k ne all
     ]
 
--- what an accepted run begins with
-record Ready (m : Machine) (records : List ℕ) (steps : ℕ) : Type 0 where
-  fits : Fit m
-  enough : steps ≤ length records
-
-ready : (m : Machine) (records : List ℕ) (steps : ℕ) → run-refusal (length (m .memory)) (m .state) (length records) steps ≡ 0 → Ready m records steps
-unfolding run-refusal
+ready : (m : Machine) (records : List ℕ) (steps : ℕ) → run-refusal (length (m .memory)) (m .state) (length records) steps ≡ 0
+    → Fit m × (steps ≤ length records)
 ready m records steps e =
-    elim (start m) [
-      | fit f ↦ record {
-        fits = f;
-        enough = elim (decLt (length records) steps) [
-          | yes l ↦ absurd (let three = rw (eq-eqb _ _ (f .sized), f .formed, lt-ltb _ _ l) at e in omega arith)
-          | no g ↦ omega arith
-        ];
-      }
-      | unfit k ne all ↦ absurd (ne (sym (all records steps) ∙ e))
-    ]
+    let a = accepted _ _ _ _ e in
+    (record { sized = a .sized; formed = a .formed }, a .enough)
 
 module _ (stop : ℕ) where
   -- a run that ends before its steps are done ends at the stop address, and was at it never before
@@ -282,8 +244,8 @@ stops-exactly m s records steps stop e =
     let r = ready (at s m) records steps e in
     let d = runs-at-most stop steps records (at s m) in
     rw (accepted-runs m s records steps stop e) (
-      runs-ended stop steps records (at s m) (r .enough),
-      λ k l. rw (accepted-runs m s records k stop (fit-accepted (at s m) records k (r .fits) (omega arith)))
+      runs-ended stop steps records (at s m) (r .1),
+      λ k l. rw (accepted-runs m s records k stop (fit-accepted (at s m) records k (r .0) (omega arith)))
           (runs-never stop steps records (at s m) k l),
     )
 
@@ -292,9 +254,9 @@ unfolding result Ended
 odd-never-stops m s records steps stop e odd =
     let r = ready (at s m) records steps e in
     let most = runs-at-most stop steps records (at s m) in
-    let f = form _ (runs-fit stop steps records (at s m) (r .fits) .formed) in
+    let f = form _ (runs-fit stop steps records (at s m) (r .0) .formed) in
     rw (accepted-runs m s records steps stop e)
     (elim (decLt (runs stop steps records (at s m) .steps) steps) [
-      | yes l ↦ absurd (omega (arith, runs-ended stop steps records (at s m) (r .enough) l, f .even .pc))
+      | yes l ↦ absurd (omega (arith, runs-ended stop steps records (at s m) (r .1) l, f .even .pc))
       | no g ↦ omega arith
     ])

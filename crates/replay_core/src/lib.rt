@@ -1,3 +1,2 @@
-// Steps and runs: clock, sampling, entries, instructions; power up.
-pub mod boundary;
+// Runs of steps, and power up.
 pub mod run;

@@ -2,7 +2,8 @@
 use Rattle.machine.specs.Run.{run}
 use borrow.Author.Tests.{ne-eqb}
 use mathlib.Core.Path.{sym, _∙_}
-use Rattle.replay_core.proofs.Runs.{accepted, ran-to}
+use Rattle.run_rules.proofs.Laws.{accepted}
+use Rattle.replay_core.proofs.Runs.{ran-to}
 use borrow.Author.Needs.{needs}
 use Rattle.replay_core.proofs.run.run.Statement.{statement}
 use Rattle.replay_core.proofs.run.run.Tie as tie
@@ -12,7 +13,9 @@ unfolding run
 returns c = rw (← c .before .run-refusal .ensures, ne-eqb _ _ (c .if1 .taken))
 
 run-steps-requires : tie.Need-run-steps-requires
-run-steps-requires c κs = accepted _ _ _ _ (sym (c .before .before .run-refusal .ensures) ∙ c .before .if1 .left)
+run-steps-requires c κs =
+    let a = accepted _ _ _ _ (sym (c .before .before .run-refusal .ensures) ∙ c .before .if1 .left) in
+    (a .sized, a .enough)
 
 returns-2 : tie.Need-returns-2
 returns-2 c =

@@ -7,15 +7,17 @@ use native.Mathlib.Omega.{arith}
 use lib.ListN.{length, drop}
 use borrow.Author.Needs.{needs}
 use borrow.Author.Tests.{eq-eqb, ne-eqb}
+use Rattle.memory.specs.Memory.{size}
 use Rattle.machine.specs.State.{at}
 use Rattle.machine.specs.Run.{runs}
-use Rattle.replay_core.proofs.Runs.{further, further-none, further-once, stopped, none-left, goes-on, missed-at-most}
+use Rattle.run_rules.proofs.Laws.{stopped, none-left, missed-at-most}
+use Rattle.replay_core.proofs.Runs.{further, further-none, further-once, goes-on}
 use Rattle.replay_core.proofs.run.run_steps.Statement.{statement}
 use Rattle.replay_core.proofs.run.run_steps.Tie as tie
 
 abbrev Inv-loop : tie.InvT-loop
 Inv-loop bytes₀ records steps stop s₀ done₀ unassigned₀ bytes s done unassigned =
-    (length bytes ≡ 16384)
+    (length bytes ≡ size)
     × (done ≤ steps)
     × (unassigned ≤ done)
     × (runs stop steps records (at s₀ bytes₀) ≡ further done unassigned (runs stop (steps - done) (drop done records) (at s bytes)))

@@ -1,0 +1,9 @@
+pub mod Each
+pub mod Steady
+pub mod Does
+pub mod Switch
+pub mod Execute
+pub mod Step
+pub mod Kept
+pub mod Claim
+pub mod Example

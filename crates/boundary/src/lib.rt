@@ -1,0 +1,92 @@
+// One step: the clock advances, the request code is judged, and an entry is taken or an instruction executed.
+ghost use mathlib.Core.Path.{_≡_};
+ghost use Prim.Native.Nat.{ℕ};
+ghost use Rattle.memory.specs.Memory.{Installed};
+ghost use Rattle.machine.specs.State.{at};
+ghost use Rattle.machine.specs.Step as Step;
+ghost use Rattle.machine.specs.Perform.{perform, performed};
+use control_ops::switch;
+use machine::Kind;
+use machine::Signal;
+use machine::State;
+use machine::bus;
+use operand::results;
+
+// What a step was, and the state after it.
+pub struct Stepped {
+    pub kind: Kind,
+    pub state: State,
+}
+
+// An entry: the context switch, then ST and the flags.
+pub fn enter(bytes: &mut [u8], state: State, signal: Signal) -> State
+    requires { ⌜ Installed (now bytes) ⌝ }
+    ensures { λ r. ⌜ ((v : ℕ) → perform v (Step.enter (Step.vector signal) (Step.entry-status signal)) (at state (now (bytes .entry))) ≡ performed tt (at r (now (bytes .exit)))) ⌝ }
+{
+    let switched = switch::switch(bytes, state, sampling::vector(signal));
+    let st = switched.st;
+    let judged = results::set_status(switched, sampling::entry_status(signal, st));
+    let flags = judged.flags;
+    bus::set_flags(judged, bits::put(flags, State::IDLE, false))
+}
+
+// No entry: no-sample is cleared; an idle machine does nothing more, any other executes one instruction.
+fn proceed(bytes: &mut [u8], state: State, levels: u32) -> Stepped
+    requires { ⌜ Installed (now bytes) ⌝ }
+    ensures { λ r. ⌜ perform levels Step.proceed (at state (now (bytes .entry))) ≡ performed (r .kind) (at (r .state) (now (bytes .exit))) ⌝ }
+{
+    let flags = state.flags;
+    let sampled = bus::set_flags(state, bits::put(flags, State::NO_SAMPLE, false));
+    if bits::bit(flags as u32, State::IDLE) {
+        return Stepped {
+            kind: Kind::Idle,
+            state: sampled,
+        };
+    }
+    let word = bus::fetch(bytes, sampled);
+    let fetched = word.state;
+    let executed = cpu::execute(bytes, fetched, levels, word.value, cpu::ALLOWANCE);
+    let deed = executed.deed;
+    let after = executed.state;
+    Stepped {
+        kind: Kind::Ran(deed),
+        state: after,
+    }
+}
+
+// What happens at a boundary where this is taken.
+fn boundary(bytes: &mut [u8], state: State, levels: u32, signal: Signal) -> Stepped
+    requires { ⌜ Installed (now bytes) ⌝ }
+    ensures { λ r. ⌜ perform levels (Step.boundary signal) (at state (now (bytes .entry))) ≡ performed (r .kind) (at (r .state) (now (bytes .exit))) ⌝ }
+{
+    match signal {
+        Signal::Reset => Stepped {
+            kind: Kind::Reset,
+            state: enter(bytes, state, Signal::Reset),
+        },
+        Signal::Load => Stepped {
+            kind: Kind::Load,
+            state: enter(bytes, state, Signal::Load),
+        },
+        Signal::Level(k) => Stepped {
+            kind: Kind::Level(k),
+            state: enter(bytes, state, Signal::Level(k)),
+        },
+        Signal::Nothing => proceed(bytes, state, levels),
+    }
+}
+
+// One step with a pin record.
+pub fn step(bytes: &mut [u8], state: State, word: u32) -> Stepped
+    requires { ⌜ Installed (now bytes) ⌝ }
+    ensures { λ r. ⌜ Step.step word (at state (now (bytes .entry))) ≡ performed (r .kind) (at (r .state) (now (bytes .exit))) ⌝ }
+{
+    let mut clocked = state;
+    let record = psi::split(word);
+    let before = clocked.psi;
+    let after = before.advance(record.cycles);
+    let code = after.code(record.levels);
+    clocked.psi = after;
+    let taken = sampling::admitted(clocked, sampling::signal(code));
+    boundary(bytes, clocked, record.levels, taken)
+}
