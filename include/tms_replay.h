@@ -2,13 +2,19 @@
 
    Build it with `rt staticlib tms_replay`; link target/staticlib/libtms_replay.a.
 
-   A slice is a pointer and the number of its elements. A pointer must not be null, not even
-   with 0 elements, and must be aligned for its type; a slice that is changed must not overlap
-   another slice of the same call. Nothing is kept after a call, and nothing is allocated.
+   Memory, image and records are lent: a pointer and the number of elements. A refusal changes
+   nothing that is lent, and a slice that is `const` is never changed. `state` after power up and
+   after reading an image, `counts` and `block` are places for the answer: whatever is in them is
+   replaced, on a refusal too. `state` of a run goes in and comes out: a refusal leaves it as it
+   was given, bit for bit.
+
+   What a caller owes: no pointer is null, not even that of an empty slice; each is aligned for its
+   type; what is changed overlaps nothing else of the same call; `state` has 12 elements, `counts`
+   has 2. Nothing is kept after a call, and nothing is allocated.
 
    The contracts of the functions, proved for all arguments, stand in
    crates/tms_replay/src/exported.rt, and the definitions that they cite in
-   crates/tms_replay/specs/Exported.antt. */
+   crates/tms_replay/specs/Exported.antt. For Fortran: tms_replay.f90 beside this file. */
 
 #ifndef TMS_REPLAY_H
 #define TMS_REPLAY_H
@@ -26,7 +32,7 @@ extern "C" {
 #define TMS_STATE_WORDS 12
 #define TMS_COUNTS 2
 
-/* The words of a state. */
+/* The words of a state: numbers of 16 bits, in elements of 32. */
 enum {
   TMS_WP,          /* workspace pointer */
   TMS_PC,          /* program counter */
@@ -42,48 +48,46 @@ enum {
   TMS_PENDING      /* 1: the clock's request is pending */
 };
 
-/* The words of a run's counts. */
+/* A run's counts. */
 enum {
   TMS_STEPS,     /* steps done */
   TMS_UNASSIGNED /* how many of them met an unassigned word */
 };
 
-/* The answers. All but TMS_MISFIT are checked in the order that each function names. */
+/* The answers, checked in the order that each function names. */
 enum {
   TMS_ACCEPTED = 0,
   TMS_MEMORY = 1,       /* the memory has not 16384 bytes */
-  TMS_STATE = 2,        /* the state is not well formed */
+  TMS_STATE = 2,        /* the state is not well formed, or an element is above 65535 */
   TMS_RECORDS = 3,      /* more steps asked than there are records */
   TMS_IMAGE = 5,        /* the image or its buffer has not 17408 bytes */
   TMS_BLOCK_CHECK = 6,  /* a block's check is wrong */
   TMS_BLOCK_NUMBER = 7, /* a block's number is wrong */
   TMS_FORMAT = 8,       /* the format word or the edition is wrong */
-  TMS_FIELDS = 9,       /* the fields are not well formed, or filler is not 0 */
-  TMS_MISFIT = 99       /* state, counts or block has another length; comes first, changes nothing */
+  TMS_FIELDS = 9        /* the fields are not well formed, or filler is not 0 */
 };
 
-/* Power up: the blank PSI and the reset entry from blank registers. Leaves the state's words in
-   `state`: after a refusal the blank state's. Answers 99, 1, 0. */
-uint16_t tms_power_up(uint8_t *memory, size_t memory_len, uint16_t *state, size_t state_len);
+/* Power up: the blank PSI and the reset entry from blank registers. Leaves the state in `state`:
+   after a refusal the blank state. Answers 1, 0. */
+uint16_t tms_power_up(uint8_t *memory, size_t memory_len, uint32_t state[TMS_STATE_WORDS]);
 
 /* Runs at most `steps` steps, one pin record each, and stops before a step whose PC is `stop` (an
    odd one never is). A record: bits 0 to 14 are the pins INT1 to INT15, 15 to 21 P0 to P6 (1 is
    high), 22 to 31 the clock cycles before the step. Leaves the state after in `state` and the two
-   counts in `counts`; a refusal leaves the state as it was and zero counts.
-   Answers 99, 1, 2, 3, 0. */
-uint16_t tms_run(uint8_t *memory, size_t memory_len, uint16_t *state, size_t state_len,
+   counts in `counts`; a refusal leaves `state` as it was and zero counts. Answers 1, 2, 3, 0. */
+uint16_t tms_run(uint8_t *memory, size_t memory_len, uint32_t state[TMS_STATE_WORDS],
                  const uint32_t *records, size_t records_len, size_t steps, uint16_t stop,
-                 uint64_t *counts, size_t counts_len);
+                 uint64_t counts[TMS_COUNTS]);
 
-/* Reads an image into `memory` and `state`. `block` has one element, in which refusals 6 and 7
-   leave the number of the block, all other answers 0. A refusal leaves the blank state and
-   the memory as it was. Answers 99, 1, 5, 6 or 7, 8, 9, 0. */
+/* Reads an image into `memory` and `state`. Refusals 6 and 7 leave the number of the lowest bad
+   block in `block`, all other answers 0. A refusal leaves the blank state in `state`, and the
+   memory as it was. Answers 1, 5, then 6 and 7 block by block, 8, 9, 0. */
 uint16_t tms_read_image(const uint8_t *image, size_t image_len, uint8_t *memory, size_t memory_len,
-                        uint16_t *state, size_t state_len, uint16_t *block, size_t block_len);
+                        uint32_t state[TMS_STATE_WORDS], uint32_t *block);
 
 /* Writes an image of `state` and `memory` into the buffer `image`, which a refusal leaves as it
-   was. Answers 99, 1, 5, 2, 0. */
-uint16_t tms_write_image(const uint16_t *state, size_t state_len, const uint8_t *memory,
+   was. Answers 1, 5, 2, 0. */
+uint16_t tms_write_image(const uint32_t state[TMS_STATE_WORDS], const uint8_t *memory,
                          size_t memory_len, uint8_t *image, size_t image_len);
 
 #ifdef __cplusplus

@@ -6,28 +6,23 @@ extern "C" {
     fn tms_run(
         memory: *mut u8,
         memory_len: usize,
-        state: *mut u16,
-        state_len: usize,
+        state: *mut u32,
         records: *const u32,
         records_len: usize,
         steps: usize,
         stop: u16,
         counts: *mut u64,
-        counts_len: usize,
     ) -> u16;
     fn tms_read_image(
         image: *const u8,
         image_len: usize,
         memory: *mut u8,
         memory_len: usize,
-        state: *mut u16,
-        state_len: usize,
-        block: *mut u16,
-        block_len: usize,
+        state: *mut u32,
+        block: *mut u32,
     ) -> u16;
     fn tms_write_image(
-        state: *const u16,
-        state_len: usize,
+        state: *const u32,
         memory: *const u8,
         memory_len: usize,
         image: *mut u8,
@@ -35,8 +30,8 @@ extern "C" {
     ) -> u16;
 }
 
-/// A state's twelve words, in the order of an image's block 0.
-pub type Words = [u16; 12];
+/// A state's twelve words, in the order of an image's block 0, each in an element of 32 bits.
+pub type Words = [u32; 12];
 
 pub fn words(state: &State) -> Words {
     let psi = &state.psi;
@@ -54,9 +49,12 @@ pub fn words(state: &State) -> Words {
         psi.phase,
         psi.pending,
     ]
+    .map(u32::from)
 }
 
+/// The state of twelve words, each of which fits 16 bits.
 pub fn state(words: &Words) -> State {
+    let words = words.map(|w| u16::try_from(w).unwrap());
     State {
         wp: words[0],
         pc: words[1],
@@ -91,19 +89,17 @@ pub fn run(
             memory.as_mut_ptr(),
             memory.len(),
             state.as_mut_ptr(),
-            state.len(),
             records.as_ptr(),
             records.len(),
             steps,
             stop,
             counts.as_mut_ptr(),
-            counts.len(),
         )
     }
 }
 
 /// The number, and in `block` the block that a refusal names.
-pub fn read_image(image: &[u8], memory: &mut [u8], state: &mut Words, block: &mut [u16; 1]) -> u16 {
+pub fn read_image(image: &[u8], memory: &mut [u8], state: &mut Words, block: &mut u32) -> u16 {
     // SAFETY: as in `run`.
     unsafe {
         tms_read_image(
@@ -112,9 +108,7 @@ pub fn read_image(image: &[u8], memory: &mut [u8], state: &mut Words, block: &mu
             memory.as_mut_ptr(),
             memory.len(),
             state.as_mut_ptr(),
-            state.len(),
-            block.as_mut_ptr(),
-            block.len(),
+            block,
         )
     }
 }
@@ -124,7 +118,6 @@ pub fn write_image(state: &Words, memory: &[u8], image: &mut [u8]) -> u16 {
     unsafe {
         tms_write_image(
             state.as_ptr(),
-            state.len(),
             memory.as_ptr(),
             memory.len(),
             image.as_mut_ptr(),

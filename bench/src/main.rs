@@ -57,7 +57,7 @@ fn steps(image: &[u8], records: &[u32]) -> Times {
     let mut ours = vec![0; oracle::MEMORY_SIZE];
     let mut theirs = ours.clone();
     let mut words = library::Words::default();
-    assert_eq!(library::read_image(image, &mut ours, &mut words, &mut [0]), 0);
+    assert_eq!(library::read_image(image, &mut ours, &mut words, &mut 0), 0);
     let mut state = oracle::read_image(image, &mut theirs).state;
     assert_eq!(library::state(&words), state);
     let mut left = STEPS;
@@ -93,7 +93,7 @@ fn images(image: &[u8]) -> Times {
         let mut read = library::Words::default();
         let start = Instant::now();
         let wrote = library::write_image(&words, &memory, &mut ours);
-        let number = library::read_image(&ours, &mut back, &mut read, &mut [0]);
+        let number = library::read_image(&ours, &mut back, &mut read, &mut 0);
         times.library += start.elapsed();
         assert!(wrote == 0 && number == 0 && read == words && back == memory);
         let start = Instant::now();

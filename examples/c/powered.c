@@ -1,5 +1,5 @@
 /* Powers up on a memory with a reset vector and a small program, runs it, carries the machine
-   through an image, and runs on. */
+   through an image, runs on, and is refused in several ways. */
 
 #include <inttypes.h>
 #include <stdio.h>
@@ -9,23 +9,28 @@
 
 static uint8_t memory[TMS_MEMORY_SIZE];
 static uint8_t image[TMS_IMAGE_SIZE];
+static uint32_t state[TMS_STATE_WORDS];
+static uint64_t counts[TMS_COUNTS];
+static uint32_t records[8];
+static uint32_t block;
 
 static void put(uint16_t at, uint16_t word) {
   memory[at] = word >> 8;
   memory[at + 1] = word & 0xFF;
 }
 
-static void line(uint16_t answer, const uint64_t *counts, const uint16_t *state) {
-  printf("answer %u steps %" PRIu64 " unassigned %" PRIu64 " pc %04X wp %04X st %04X\n", answer,
-         counts[TMS_STEPS], counts[TMS_UNASSIGNED], state[TMS_PC], state[TMS_WP], state[TMS_ST]);
+static void line(uint16_t answer) {
+  printf("answer %u steps %" PRIu64 " unassigned %" PRIu64 " pc %04" PRIX32 " wp %04" PRIX32
+         " st %04" PRIX32 "\n",
+         answer, counts[TMS_STEPS], counts[TMS_UNASSIGNED], state[TMS_PC], state[TMS_WP],
+         state[TMS_ST]);
+}
+
+static uint16_t run(size_t steps) {
+  return tms_run(memory, sizeof memory, state, records, 8, steps, 1, counts);
 }
 
 int main(void) {
-  uint16_t state[TMS_STATE_WORDS] = {0};
-  uint64_t counts[TMS_COUNTS] = {0};
-  uint16_t block[1] = {0};
-  uint32_t records[8];
-
   /* The reset vector, then: LI R1,7FFFh; LI R2,1; A R1,R2; an unassigned word. */
   put(0x0000, 0x0300);
   put(0x0002, 0x0100);
@@ -38,27 +43,36 @@ int main(void) {
   for (size_t i = 0; i < 8; i++)
     records[i] = 0x003FFFFF; /* all pins high, no cycles */
 
-  line(tms_power_up(memory, sizeof memory, state, TMS_STATE_WORDS), counts, state);
-  line(tms_run(memory, sizeof memory, state, TMS_STATE_WORDS, records, 8, 2, 1, counts, TMS_COUNTS),
-       counts, state);
+  line(tms_power_up(memory, sizeof memory, state));
+  line(run(2));
 
   /* Through an image, into a memory and a state that were wiped. */
-  uint16_t wrote = tms_write_image(state, TMS_STATE_WORDS, memory, sizeof memory, image, sizeof image);
+  uint16_t wrote = tms_write_image(state, memory, sizeof memory, image, sizeof image);
   memset(memory, 0, sizeof memory);
   memset(state, 0, sizeof state);
-  uint16_t read =
-      tms_read_image(image, sizeof image, memory, sizeof memory, state, TMS_STATE_WORDS, block, 1);
-  printf("wrote %u read %u block %u\n", wrote, read, block[0]);
+  uint16_t read = tms_read_image(image, sizeof image, memory, sizeof memory, state, &block);
+  printf("wrote %u read %u block %" PRIu32 "\n", wrote, read, block);
+  line(run(2));
 
-  line(tms_run(memory, sizeof memory, state, TMS_STATE_WORDS, records, 8, 2, 1, counts, TMS_COUNTS),
-       counts, state);
+  /* Refusals: too few records; a number that does not fit its word, which stays. */
+  line(run(9));
+  state[TMS_ST] = 65536;
+  line(run(1));
+  wrote = tms_write_image(state, memory, sizeof memory, image, sizeof image);
+  printf("wrote %u st %" PRIu32 "\n", wrote, state[TMS_ST]);
 
-  /* Refusals: too few records; a damaged block; a state of eleven words. */
-  line(tms_run(memory, sizeof memory, state, TMS_STATE_WORDS, records, 8, 9, 1, counts, TMS_COUNTS),
-       counts, state);
+  /* A damaged block, and a short image: the blank state comes back. */
   image[3 * 512 + 10] ^= 1;
-  read = tms_read_image(image, sizeof image, memory, sizeof memory, state, TMS_STATE_WORDS, block, 1);
-  printf("read %u block %u\n", read, block[0]);
-  line(tms_power_up(memory, sizeof memory, state, TMS_STATE_WORDS - 1), counts, state);
+  read = tms_read_image(image, sizeof image, memory, sizeof memory, state, &block);
+  printf("read %u block %" PRIu32 " pc %04" PRIX32 "\n", read, block, state[TMS_PC]);
+  read = tms_read_image(image, sizeof image - 1, memory, sizeof memory, state, &block);
+  printf("read %u block %" PRIu32 " pc %04" PRIX32 "\n", read, block, state[TMS_PC]);
+
+  /* A memory of another size: the blank state, but a run keeps its own. */
+  read = tms_power_up(memory, sizeof memory - 2, state);
+  printf("power up %u pc %04" PRIX32 "\n", read, state[TMS_PC]);
+  state[TMS_PC] = 0x0100;
+  printf("run %u pc %04" PRIX32 "\n",
+         tms_run(memory, 0, state, records, 8, 1, 1, counts), state[TMS_PC]);
   return 0;
 }

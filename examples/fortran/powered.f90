@@ -1,50 +1,17 @@
-! Powers up on a memory with a reset vector and a small program, and runs two steps of it and then the rest.
-
-module tms_replay
-  use, intrinsic :: iso_c_binding
-  implicit none
-
-  ! The elements of a state and of a run's counts that are printed here; include/tms_replay.h names all.
-  integer, parameter :: memory_size = 16384, state_words = 12
-  integer, parameter :: wp = 1, pc = 2, st = 3
-
-  ! Fortran has no unsigned integers: the words of a state are 16 bits in a signed kind.
-  interface
-    function tms_power_up(memory, memory_len, state, state_len) bind(c)
-      import
-      integer(c_int8_t), intent(inout) :: memory(*)
-      integer(c_size_t), value :: memory_len
-      integer(c_int16_t), intent(inout) :: state(*)
-      integer(c_size_t), value :: state_len
-      integer(c_int16_t) :: tms_power_up
-    end function
-
-    function tms_run(memory, memory_len, state, state_len, records, records_len, steps, stop_at, &
-        counts, counts_len) bind(c)
-      import
-      integer(c_int8_t), intent(inout) :: memory(*)
-      integer(c_size_t), value :: memory_len
-      integer(c_int16_t), intent(inout) :: state(*)
-      integer(c_size_t), value :: state_len
-      integer(c_int32_t), intent(in) :: records(*)
-      integer(c_size_t), value :: records_len
-      integer(c_size_t), value :: steps
-      integer(c_int16_t), value :: stop_at
-      integer(c_int64_t), intent(inout) :: counts(*)
-      integer(c_size_t), value :: counts_len
-      integer(c_int16_t) :: tms_run
-    end function
-  end interface
-end module
+! Powers up on a memory with a reset vector and a small program, runs it, carries the machine through an image, runs on,
+! and is refused in several ways. The module tms_replay is include/tms_replay.f90.
 
 program powered
+  use, intrinsic :: iso_c_binding
   use tms_replay
   implicit none
 
-  integer(c_int8_t) :: memory(0:memory_size - 1) = 0
-  integer(c_int16_t) :: state(state_words) = 0
-  integer(c_int64_t) :: counts(2) = 0
+  integer(c_int8_t) :: memory(0:tms_memory_size - 1) = 0
+  integer(c_int8_t) :: image(0:tms_image_size - 1) = 0
+  integer(c_int32_t) :: state(tms_state_words) = 0
+  integer(c_int64_t) :: counts(tms_counts) = 0
   integer(c_int32_t) :: records(8)
+  integer(c_int32_t) :: block_number
   integer(c_int16_t) :: answer
 
   ! The reset vector, then: LI R1,7FFFh; LI R2,1; A R1,R2; an unassigned word.
@@ -58,11 +25,30 @@ program powered
   call put(int(z'010A'), int(z'0000'))
   records = int(z'003FFFFF', c_int32_t) ! all pins high, no cycles
 
-  answer = tms_power_up(memory, int(memory_size, c_size_t), state, int(state_words, c_size_t))
+  answer = tms_power_up(memory, tms_memory_size, state)
   call line()
   call run(2)
+
+  ! Through an image, into a memory and a state that were wiped.
+  answer = tms_write_image(state, memory, tms_memory_size, image, tms_image_size)
+  print '(a, i0)', 'wrote ', answer
+  memory = 0
+  state = 0
+  call read_image(tms_image_size)
   call run(2)
-  call run(9) ! more than there are records
+
+  ! Refusals: too few records; a number that does not fit its word, which stays; a damaged block; a short image.
+  call run(9)
+  state(tms_st) = 65536
+  call run(1)
+  print '(12(i0, 1x))', state
+  answer = tms_write_image(state, memory, tms_memory_size, image, tms_image_size)
+  print '(a, i0)', 'wrote ', answer
+  image(3 * 512 + 10) = not(image(3 * 512 + 10))
+  call read_image(tms_image_size)
+  call read_image(tms_image_size - 1)
+  answer = tms_power_up(memory, tms_memory_size - 2, state)
+  call line()
 
 contains
 
@@ -84,14 +70,21 @@ contains
   subroutine run(steps)
     integer, intent(in) :: steps
 
-    answer = tms_run(memory, int(memory_size, c_size_t), state, int(state_words, c_size_t), &
-        records, int(size(records), c_size_t), int(steps, c_size_t), 1_c_int16_t, &
-        counts, int(size(counts), c_size_t))
+    answer = tms_run(memory, tms_memory_size, state, records, int(size(records), c_size_t), &
+        int(steps, c_size_t), 1_c_int16_t, counts)
     call line()
   end subroutine
 
+  subroutine read_image(length)
+    integer(c_size_t), intent(in) :: length
+
+    answer = tms_read_image(image, length, memory, tms_memory_size, state, block_number)
+    print '(a, i0, a, i0, a, i0)', 'read ', answer, ' block ', block_number, ' pc ', state(tms_pc)
+  end subroutine
+
+  ! The words of a state are never negative, so they print as they are.
   subroutine line()
-    print '(a, i0, a, i0, a, i0, a, z4.4, a, z4.4, a, z4.4)', 'answer ', answer, ' steps ', counts(1), &
-        ' unassigned ', counts(2), ' pc ', state(pc), ' wp ', state(wp), ' st ', state(st)
+    print '(a, i0, a, i0, a, i0, a, i0, a, i0, a, i0)', 'answer ', answer, ' steps ', counts(tms_steps), &
+        ' unassigned ', counts(tms_unassigned), ' pc ', state(tms_pc), ' wp ', state(tms_wp), ' st ', state(tms_st)
   end subroutine
 end program

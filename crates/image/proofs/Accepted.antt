@@ -1,10 +1,9 @@
 -- What holds where the table names no refusal: each test on the way was passed.
-use Prim.Native.Nat.{ℕ, zero, suc, _+_, _%_, _<_}
+use Prim.Native.Nat.{ℕ}
 use mathlib.Core.Path.{_≡_, refl, sym}
-use mathlib.Core.Bool.{Bool, true, false, not, _&&_, true≢false}
+use mathlib.Core.Bool.{Bool, true, false, not, true≢false}
 use mathlib.Core.List.{List}
 use native.Mathlib.Omega.{arith}
-use native.Mathlib.Nat.{add-zero}
 use borrow.Author.Tests.{eq-eqb, eqb-true}
 use lib.ListN.{length}
 use lib.Dec.{eqb}
@@ -12,21 +11,14 @@ use Rattle.bits.specs.Bits.{if_then_else_}
 use Rattle.machine.specs.declared.State.{State}
 use Rattle.machine.specs.State.{well-formed}
 use Rattle.memory.specs.Memory.{size}
-use Rattle.image.specs.Image as Image
-use Rattle.image.specs.Calls.{Fault, fault, first-fault, block-fault, content-fault, read-fault, write-fault}
+use Rattle.image_blocks.specs.Image as Image
+use Rattle.image.specs.declared.Fault.{Fault}
+use Rattle.image.specs.Calls.{fault, first-fault, content-fault, read-fault, write-fault}
 
 -- a test whose refusal would show was passed, and the tests after it were
 pub passed : {A : Type 0} (number : A → ℕ) (b : Bool) (x y : A) → (number x ≡ 0 → b ≡ true) → number (if not b then x else y) ≡ 0 → (b ≡ true) × (number y ≡ 0)
 passed number true x y c h = (refl, h)
 passed number false x y c h = absurd (true≢false (sym (c h)))
-
-picked : (b : Bool) (x y : Fault) → (y .number ≡ 0 → b ≡ true) → (if b then x else y) .number ≡ 0 → (b ≡ true) × (x .number ≡ 0)
-picked true x y c h = (refl, h)
-picked false x y c h = absurd (true≢false (sym (c h)))
-
-pub both : (a b : Bool) → (a && b) ≡ true → (a ≡ true) × (b ≡ true)
-both true b h = (refl, h)
-both false b h = absurd (true≢false (sym h))
 
 pub record Accepted (img m : List ℕ) : Type 0 where
   pub memory-sized : length m ≡ size
@@ -69,55 +61,4 @@ writable s m img h =
       memory-sized = eqb-true (length m) size (one .0);
       image-sized = eqb-true (length img) Image.image-size (two .0);
       formed = three .0;
-    }
-
--- no fault among k blocks: each is in order
-pub each-right : (img : List ℕ) (k i d : ℕ) → first-fault img k i .number ≡ 0 → d < k → block-fault img (i + d) ≡ 0
-unfolding first-fault
-each-right img zero i d h l = absurd (omega arith)
-each-right img (suc k) i zero h l =
-    rw (add-zero i) (eqb-true (block-fault img i) 0 (picked (eqb (block-fault img i) 0) (first-fault img k (i + 1)) (record { number = block-fault img i; block = i }) (eq-eqb (block-fault img i) 0) h .0))
-each-right img (suc k) i (suc d) h l =
-    rw (let e : i + suc d ≡ i + 1 + d = omega arith in e)
-    (each-right img k (i + 1) d
-    (picked (eqb (block-fault img i) 0) (first-fault img k (i + 1)) (record { number = block-fault img i; block = i }) (eq-eqb (block-fault img i) 0) h .1)
-    (omega arith))
-
--- a block in order
-pub record Right (img : List ℕ) (i : ℕ) : Type 0 where
-  pub sum : Image.words-sum (Image.block-of img i) % 65536 ≡ 65535
-  pub number : Image.word-at (Image.block-of img i) 0 ≡ i
-
-pub right : (img : List ℕ) (i : ℕ) → block-fault img i ≡ 0 → Right img i
-unfolding block-fault
-right img i h =
-    let sum : ℕ = Image.words-sum (Image.block-of img i) % 65536 in
-    let number : ℕ = Image.word-at (Image.block-of img i) 0 in
-    let last : ℕ = if not (eqb number i) then 7 else 0 in
-    let one = passed (λ n. n) (eqb sum 65535) 6 last (λ e. absurd (omega arith)) h in
-    let two = passed (λ n. n) (eqb number i) 7 0 (λ e. absurd (omega arith)) (one .1) in
-    record { sum = eqb-true sum 65535 (one .0); number = eqb-true number i (two .0) }
-
--- block 0's content in order
-pub record Sound (img : List ℕ) : Type 0 where
-  pub format : Image.field-of img 0 ≡ Image.format
-  pub edition : Image.field-of img 1 ≡ Image.edition
-  pub formed : well-formed (Image.state-of img) ≡ true
-  pub filler : Image.zeros (Image.filler-of img) ≡ true
-
-pub sound : (img : List ℕ) → content-fault img ≡ 0 → Sound img
-unfolding content-fault
-sound img h =
-    let first : Bool = eqb (Image.field-of img 0) Image.format && eqb (Image.field-of img 1) Image.edition in
-    let second : Bool = well-formed (Image.state-of img) && Image.zeros (Image.filler-of img) in
-    let last : ℕ = if not second then 9 else 0 in
-    let one = passed (λ n. n) first 8 last (λ e. absurd (omega arith)) h in
-    let two = passed (λ n. n) second 9 0 (λ e. absurd (omega arith)) (one .1) in
-    let words = both (eqb (Image.field-of img 0) Image.format) (eqb (Image.field-of img 1) Image.edition) (one .0) in
-    let rest = both (well-formed (Image.state-of img)) (Image.zeros (Image.filler-of img)) (two .0) in
-    record {
-      format = eqb-true (Image.field-of img 0) Image.format (words .0);
-      edition = eqb-true (Image.field-of img 1) Image.edition (words .1);
-      formed = rest .0;
-      filler = rest .1;
     }

@@ -1,7 +1,1 @@
-pub mod Lists
-pub mod Words
-pub mod Parts
-pub mod Written
 pub mod Accepted
-pub mod Read
-pub mod Claims

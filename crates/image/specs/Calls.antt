@@ -1,5 +1,5 @@
 -- The two calls: when they refuse, what they answer, and what the lent bytes are afterwards.
-use Prim.Native.Nat.{ℕ, zero, suc, _+_, _%_}
+use Prim.Native.Nat.{ℕ, zero, suc, _+_}
 use mathlib.Core.Bool.{not, _&&_}
 use mathlib.Core.List.{List}
 use lib.ListN.{length}
@@ -8,31 +8,21 @@ use Rattle.bits.specs.Bits.{if_then_else_}
 use Rattle.memory.specs.Memory.{size}
 use Rattle.machine.specs.declared.State.{State}
 use Rattle.machine.specs.State.{blank, well-formed}
+use Rattle.image.specs.declared.Fault.{Fault}
 use Rattle.image.specs.declared.ReadAnswer.{ReadAnswer}
 use Rattle.image.specs.declared.WriteAnswer.{WriteAnswer}
-use Rattle.image.specs.Image as Image
+use Rattle.image_blocks.specs.Image as Image
 
--- a refusal's number, and the block that it names; 0 where there is none
-pub record Fault : Type 0 where
-  pub number : ℕ
-  pub block : ℕ
-
+-- a refusal that names no block
 abbrev pub fault : ℕ → Fault
 fault n = record { number = n; block = 0 }
-
--- Within a block the check comes before the number.
-unfoldable pub block-fault : List ℕ → ℕ → ℕ
-block-fault img i =
-    if not (eqb (Image.words-sum (Image.block-of img i) % 65536) 65535) then 6
-    else if not (eqb (Image.word-at (Image.block-of img i) 0) i) then 7
-    else 0
 
 -- the first fault of k blocks from number i on, judged block by block
 unfoldable pub first-fault : List ℕ → ℕ → ℕ → Fault
 first-fault img zero i = fault 0
 first-fault img (suc k) i =
-    if eqb (block-fault img i) 0 then first-fault img k (i + 1)
-    else record { number = block-fault img i; block = i }
+    if eqb (Image.block-fault img i) 0 then first-fault img k (i + 1)
+    else record { number = Image.block-fault img i; block = i }
 
 -- what block 0 says, once all blocks are in order
 unfoldable pub content-fault : List ℕ → ℕ

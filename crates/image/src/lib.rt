@@ -2,12 +2,9 @@
 ghost use mathlib.Core.Path.{_≡_};
 ghost use lib.ListN.{length};
 ghost use Rattle.memory.specs.Memory.{Installed};
-ghost use Rattle.image.specs.Image as Image;
+ghost use Rattle.image_blocks.specs.Image as Image;
 ghost use Rattle.image.specs.Calls as Calls;
-ghost use Rattle.image.specs.Blocks as Blocks;
 use machine::State;
-
-pub mod blocks;
 
 // Reading's answer: the number of document 01's table, the block that a refusal names, and the state.
 pub struct ReadAnswer {
@@ -31,11 +28,11 @@ pub struct Fault {
 // The first block in fault with its refusal, or zeros.
 fn first_fault(image: &[u8]) -> Fault
     requires { ⌜ length (now image) ≡ Image.image-size ⌝ }
-    ensures { λ r. ⌜ Blocks.found r ≡ Calls.first-fault (now (image .entry)) Image.block-count 0 ⌝ }
+    ensures { λ r. ⌜ r ≡ Calls.first-fault (now (image .entry)) Image.block-count 0 ⌝ }
 {
     let mut i = 0;
-    while i < blocks::BLOCKS {
-        let number = blocks::block_fault(image, i);
+    while i < image_blocks::BLOCKS {
+        let number = image_blocks::block_fault(image, i);
         if number != 0 {
             return Fault {
                 number,
@@ -55,10 +52,10 @@ fn filler_clear(image: &[u8]) -> bool
     requires { ⌜ length (now image) ≡ Image.image-size ⌝ }
     ensures { λ r. ⌜ r ≡ Image.zeros (Image.filler-of (now (image .entry))) ⌝ }
 {
-    if !blocks::zeros(&image[30..510]) {
+    if !image_blocks::zeros(&image[image_blocks::REST..image_blocks::CHECK]) {
         return false;
     }
-    blocks::zeros(&image[17026..17406])
+    image_blocks::zeros(&image[image_blocks::TAIL..image_blocks::TAIL_END])
 }
 
 // The refusal that block 0's content or the filler calls for, or 0.
@@ -66,13 +63,13 @@ fn content_fault(image: &[u8]) -> u16
     requires { ⌜ length (now image) ≡ Image.image-size ⌝ }
     ensures { λ r. ⌜ r ≡ Calls.content-fault (now (image .entry)) ⌝ }
 {
-    if blocks::field(image, 0) != blocks::FORMAT {
+    if image_blocks::field(image, 0) != image_blocks::FORMAT {
         return 8;
     }
-    if blocks::field(image, 1) != blocks::EDITION {
+    if image_blocks::field(image, 1) != image_blocks::EDITION {
         return 8;
     }
-    let state = blocks::state_of(image);
+    let state = image_blocks::state_of(image);
     if !state.well_formed() {
         return 9;
     }
@@ -83,24 +80,24 @@ fn content_fault(image: &[u8]) -> u16
 }
 
 // The refusal that reading this image into this memory calls for.
-fn read_fault(image: &[u8], lent: &[u8]) -> Fault
-    ensures { λ r. ⌜ Blocks.found r ≡ Calls.read-fault (now (image .entry)) (now (lent .entry)) ⌝ }
+fn read_fault(image: &[u8], bytes: &[u8]) -> Fault
+    ensures { λ r. ⌜ r ≡ Calls.read-fault (now (image .entry)) (now (bytes .entry)) ⌝ }
 {
-    if lent.len() != blocks::MEMORY_SIZE {
+    if bytes.len() != memory::SIZE {
         return Fault {
             number: 1,
             block: 0,
         };
     }
-    if image.len() != blocks::IMAGE_SIZE {
+    if image.len() != image_blocks::IMAGE_SIZE {
         return Fault {
             number: 5,
             block: 0,
         };
     }
-    let found = first_fault(image);
-    if found.number != 0 {
-        return found;
+    let first = first_fault(image);
+    if first.number != 0 {
+        return first;
     }
     Fault {
         number: content_fault(image),
@@ -116,10 +113,10 @@ fn fill_memory(image: &[u8], lent: &mut [u8])
 {
     let mut i = 0;
     // Block `i` + 1: behind its number lies what it carries.
-    while i < blocks::LAST {
-        let from = blocks::CONTENT_SIZE * i;
-        let to = blocks::carried(i + 1);
-        let start = blocks::BLOCK_SIZE * i + 514;
+    while i < image_blocks::LAST {
+        let from = image_blocks::CONTENT_SIZE * i;
+        let to = image_blocks::carried(i + 1);
+        let start = image_blocks::BLOCK_SIZE * (i + 1) + image_blocks::CONTENT;
         let end = start + (to - from);
         bytes::copy(&image[start..end], &mut lent[from..to]);
         i += 1;
@@ -141,7 +138,7 @@ pub fn read_image(image: &[u8], bytes: &mut [u8]) -> ReadAnswer
         };
     }
     fill_memory(image, bytes);
-    let state = blocks::state_of(image);
+    let state = image_blocks::state_of(image);
     ReadAnswer {
         number: 0,
         block: 0,
@@ -150,13 +147,13 @@ pub fn read_image(image: &[u8], bytes: &mut [u8]) -> ReadAnswer
 }
 
 // The refusal that writing this state and memory into this buffer calls for, or 0.
-fn write_fault(state: State, lent: &[u8], image: &[u8]) -> u16
-    ensures { λ r. ⌜ r ≡ Calls.write-fault state (now (lent .entry)) (now (image .entry)) ⌝ }
+fn write_fault(state: State, lent: &[u8], buffer: &[u8]) -> u16
+    ensures { λ r. ⌜ r ≡ Calls.write-fault state (now (lent .entry)) (now (buffer .entry)) ⌝ }
 {
-    if lent.len() != blocks::MEMORY_SIZE {
+    if lent.len() != memory::SIZE {
         return 1;
     }
-    if image.len() != blocks::IMAGE_SIZE {
+    if buffer.len() != image_blocks::IMAGE_SIZE {
         return 5;
     }
     if !state.well_formed() {
@@ -172,10 +169,10 @@ fn fill_image(state: State, lent: &[u8], image: &mut [u8])
     ensures { λ _. ⌜ now (image .exit) ≡ Image.image state (now (lent .entry)) ⌝ }
 {
     let mut i = 0;
-    while i < blocks::BLOCKS {
-        let block = blocks::block(state, lent, i);
-        let from = blocks::BLOCK_SIZE * i;
-        let to = from + blocks::BLOCK_SIZE;
+    while i < image_blocks::BLOCKS {
+        let block = image_blocks::block(state, lent, i);
+        let from = image_blocks::BLOCK_SIZE * i;
+        let to = from + image_blocks::BLOCK_SIZE;
         bytes::copy(&block, &mut image[from..to]);
         i += 1;
     }
@@ -186,9 +183,12 @@ pub fn write_image(state: State, bytes: &[u8], image: &mut [u8]) -> WriteAnswer
     ensures { λ r. ⌜ r ≡ Calls.write state (now (bytes .entry)) (now (image .entry)) .answer ⌝ }
     ensures { λ _. ⌜ now (image .exit) ≡ Calls.write state (now (bytes .entry)) (now (image .entry)) .image ⌝ }
 {
-    let number = write_fault(state, bytes, &image[..]);
-    if number != 0 {
-        return WriteAnswer { number, state };
+    let refusal = write_fault(state, bytes, &image[..]);
+    if refusal != 0 {
+        return WriteAnswer {
+            number: refusal,
+            state,
+        };
     }
     fill_image(state, bytes, image);
     WriteAnswer { number: 0, state }

@@ -2,17 +2,24 @@
 mod files;
 mod output;
 
-use machine::State;
+ghost use Rattle.io.specs.Counts.{Counts};
 use replay_files::line;
 use replay_files::pins;
+
+// A byte more than an image is enough to see that a file is too long.
+const IMAGE_BUFFER: usize = image_blocks::IMAGE_SIZE + 1;
+
+// The stop address and all the records that are taken.
+const PINS_BUFFER: usize = 4 * (1 + pins::MOST);
 
 fn usage() {
     io::write_all(libc::STDERR_FILENO, b"usage: replay IMAGE PINS OUT\n");
 }
 
 // Prints the line; where that fails, says so.
-fn print_line(number: u16, steps: usize, unassigned: usize, state: State) {
-    let text = line::line(number, steps, unassigned, state.pc, state.wp, state.st);
+fn print_line(text: line::Text)
+    requires { ⌜ Counts (text .length) (text .bytes) ⌝ }
+{
     let bytes = text.bytes;
     let n = text.length;
     if !io::write_all(libc::STDOUT_FILENO, &bytes[..n]) {
@@ -20,44 +27,23 @@ fn print_line(number: u16, steps: usize, unassigned: usize, state: State) {
     }
 }
 
-// Writes the image after, and then prints the line.
-fn finish(out: &[u8], answer: machine::RunAnswer, lent: &[u8; 16384]) {
-    let state = answer.state;
-    let mut after = [0u8; 17408];
-    let written = tms_replay::write_image(state, lent, &mut after);
-    if written.number != 0 {
-        let kept = written.state;
-        print_line(written.number, 0, 0, kept);
-        return;
-    }
-    if output::replace(out, &after) {
-        print_line(0, answer.steps, answer.unassigned, state);
-    }
+// Writes the image after.
+fn put(out: &[u8], after: &[u8; image_blocks::IMAGE_SIZE]) -> bool {
+    output::replace(out, after)
 }
 
-// Runs on the records of the pin file.
-fn run_on(state: State, file: &[u8], lent: &mut [u8; 16384]) -> machine::RunAnswer {
-    let records = pins::records(file);
-    let n = pins::record_count(file);
-    tms_replay::run(lent, state, &records[..n], n, pins::stop(file))
-}
-
-// The replay, where both files are read.
+// The replay, where both files are read: the image after, if there is one, and then the line.
 fn replay(before: &[u8], file: &[u8], out: &[u8]) {
-    let mut lent = [0u8; 16384];
-    let read = tms_replay::read_image(before, &mut lent);
-    let start = read.state;
-    if read.number != 0 {
-        print_line(read.number, 0, 0, start);
+    let mut after = [0u8; image_blocks::IMAGE_SIZE];
+    let done = replay_call::replay(before, file, &mut after);
+    let text = done.text;
+    if done.number != 0 {
+        print_line(text);
         return;
     }
-    let answer = run_on(start, file, &mut lent);
-    if answer.number != 0 {
-        let kept = answer.state;
-        print_line(answer.number, 0, 0, kept);
-        return;
+    if put(out, &after) {
+        print_line(text);
     }
-    finish(out, answer, &lent);
 }
 
 // The replay of what was read: so many bytes of the two buffers.
@@ -71,14 +57,14 @@ fn replay_read(before: &[u8], n: usize, file: &[u8], m: usize, out: &[u8]) {
     replay(&before[..n], &file[..m], out);
 }
 
-// Reads both files; a byte more than an image is enough to see that a file is too long.
+// Reads both files.
 fn replay_files_at(image_path: &[u8], pins_path: &[u8], out: &[u8]) {
-    let mut before = [0u8; 17409];
+    let mut before = [0u8; IMAGE_BUFFER];
     let n = files::load(image_path, &mut before);
     if n == files::FAILED {
         return;
     }
-    let mut file = [0u8; 65536];
+    let mut file = [0u8; PINS_BUFFER];
     let m = files::load(pins_path, &mut file);
     if m == files::FAILED {
         return;

@@ -6,8 +6,8 @@ use mathlib.Core.Logic.{_⊎_, inl, inr, ⊎-elim}
 use native.Mathlib.Omega.{arith}
 use native.Mathlib.Decide.{decLt}
 use native.Mathlib.Nat.{pow-succ', pow-le-pow-right, eq-or-lt-of-le}
-use lib.ListN.{length, take, drop, length-append, length-take, length-drop, drop-of-length-le}
-use lib.Seq.{take-length, length-take-le, take-at}
+use lib.ListN.{length, take, drop, replicate, length-append, length-take, length-drop, drop-of-length-le}
+use lib.Seq.{take-length, take-at, drop-at}
 use borrow.Author.Tests.{lt-ltb, le-ltb}
 use borrow.Rule.Slice.PartMut.{putMid}
 use Rattle.io.specs.Digits.{Fewest}
@@ -77,14 +77,27 @@ copied-whole l p q at to t copied =
     drop-of-length-le (take (to - at) (drop at l)) {i = length p} (rw (length-take (to - at) (drop at l)) (omega arith)) in
     copied ∙ rw (none, take-length p) (append-nil p)
 
+drop-zeros : (k n : ℕ) → drop {A = ℕ} k (replicate n 0) ≡ replicate (n - k) 0
+drop-zeros zero n = rw (let e : n - zero ≡ n = omega arith in e)
+drop-zeros (suc k) zero = rw (let e : zero - suc k ≡ zero = omega arith in e)
+drop-zeros (suc k) (suc n) = rw (let e : suc n - suc k ≡ n - k = omega arith in e) (drop-zeros k n)
+
+-- behind a text with zeros after it
 pub appended :
-    (l p q : List ℕ) (at to : ℕ) → to ≡ at + length p → to ≤ length l
+    (t l p q : List ℕ) (at to : ℕ) → l ≡ t ++ replicate (128 - length t) 0 → at ≡ length t → to ≡ at + length p → to ≤ 128
     → q ≡ take (length p) p ++ drop (length p) (take (to - at) (drop at l))
-    → take to (putMid at (to - at) l q) ≡ take at l ++ p
-appended l p q at to t h copied =
-    let long : length (take at l ++ p) ≡ to = rw (length-append (take at l) p, length-take-le at l (omega arith)) (omega arith) in
-    rw (copied-whole l p q at to t copied, ← append-assoc (take at l) p (drop (to - at) (drop at l)))
-    (take-at (take at l ++ p) (drop (to - at) (drop at l)) to long)
+    → putMid at (to - at) l q ≡ (t ++ p) ++ replicate (128 - length (t ++ p)) 0
+appended t l p q at to h a f fits copied =
+    rw (
+      copied-whole l p q at to f copied,
+      h,
+      take-at t (replicate (128 - length t) 0) at (sym a),
+      drop-at t (replicate (128 - length t) 0) at (sym a),
+      drop-zeros (to - at) (128 - length t),
+      length-append t p,
+      ← append-assoc t p (replicate (128 - length t - (to - at)) 0),
+      let e : 128 - length t - (to - at) ≡ 128 - (length t + length p) = omega arith in e,
+    )
 
 pub appended-length :
     (l p q : List ℕ) (at to : ℕ) → to ≡ at + length p → to ≤ length l

@@ -1,9 +1,12 @@
 -- The line that the program prints, as ASCII codes.
-use Prim.Native.Nat.{ℕ, zero, suc, _+_, _/_, _%_}
+use Prim.Native.Nat.{ℕ, zero, suc, _+_, _-_, _/_, _%_}
 use mathlib.Core.Bool.{cond}
+use mathlib.Core.Path.{_≡_}
 use mathlib.Core.List.{List, [], _∷_, _++_}
+use lib.ListN.{length, replicate}
 use lib.Dec.{ltb}
 use Rattle.io.specs.Digits.{digits}
+use Rattle.replay_files.specs.declared.line.Text.{Text}
 
 -- how many decimal digits a number has, `f` + 1 at most
 unfoldable pub places-in : ℕ → ℕ → ℕ
@@ -59,3 +62,12 @@ registers pc wp st = pc-label ++ hex pc ++ wp-label ++ hex wp ++ st-label ++ hex
 
 unfoldable pub text : ℕ → ℕ → ℕ → ℕ → ℕ → ℕ → List ℕ
 text number steps unassigned pc wp st = counts number steps unassigned ++ registers pc wp st
+
+-- the bytes of a text's array
+abbrev pub most : ℕ
+most = 128
+
+-- An array that holds a text: its bytes, then zeros.
+pub record Holds (x : Text) (t : List ℕ) : Type 0 where
+  pub end : x .length ≡ length t
+  pub bytes : x .bytes ≡ t ++ replicate (most - length t) 0

@@ -1,14 +1,17 @@
 // The line that the program prints.
-ghost use Prim.Native.Nat.{_+_, _<_, _≤_};
+ghost use Prim.Native.Nat.{ℕ, _+_, _<_, _≤_};
 ghost use mathlib.Core.Path.{_≡_};
-ghost use mathlib.Core.List.{_++_};
-ghost use lib.ListN.{length, take};
+ghost use mathlib.Core.List.{List, _++_};
+ghost use lib.ListN.{length};
 ghost use Rattle.io.specs.Counts.{Counts};
 ghost use Rattle.replay_files.specs.Line as Line;
 
-// The text, and how many of its bytes are the line.
+// No line is longer.
+pub const MOST: usize = 128;
+
+// The text, and how many of its bytes are the line; zeros after it.
 pub struct Text {
-    pub bytes: [u8; 128],
+    pub bytes: [u8; MOST],
     pub length: usize,
 }
 
@@ -37,11 +40,11 @@ fn hex(x: u16) -> [u8; 4]
 
 // The text with these bytes after it.
 fn append(text: Text, part: &[u8]) -> Text
-    requires { ⌜ length (text .bytes) ≡ 128 ⌝ }
-    requires { ⌜ text .length + length (now part) ≤ 128 ⌝ }
-    ensures { λ r. ⌜ length (r .bytes) ≡ 128 ⌝ }
+    requires { ⌜ length (text .bytes) ≡ Line.most ⌝ }
+    requires { ⌜ text .length + length (now part) ≤ Line.most ⌝ }
+    ensures { λ r. ⌜ length (r .bytes) ≡ Line.most ⌝ }
     ensures { λ r. ⌜ r .length ≡ text .length + length (now (part .entry)) ⌝ }
-    ensures { λ r. ⌜ take (r .length) (r .bytes) ≡ take (text .length) (text .bytes) ++ now (part .entry) ⌝ }
+    ensures { λ r. ⌜ ((t : List ℕ) → Line.Holds text t → Line.Holds r (t ++ now (part .entry))) ⌝ }
 {
     let mut bytes = text.bytes;
     let at = text.length;
@@ -52,11 +55,11 @@ fn append(text: Text, part: &[u8]) -> Text
 
 // The text with a number in decimal after it.
 fn append_decimal(text: Text, n: usize) -> Text
-    requires { ⌜ length (text .bytes) ≡ 128 ⌝ }
-    requires { ⌜ text .length + 20 ≤ 128 ⌝ }
-    ensures { λ r. ⌜ length (r .bytes) ≡ 128 ⌝ }
+    requires { ⌜ length (text .bytes) ≡ Line.most ⌝ }
+    requires { ⌜ text .length + 20 ≤ Line.most ⌝ }
+    ensures { λ r. ⌜ length (r .bytes) ≡ Line.most ⌝ }
     ensures { λ r. ⌜ r .length ≤ text .length + 20 ⌝ }
-    ensures { λ r. ⌜ take (r .length) (r .bytes) ≡ take (text .length) (text .bytes) ++ Line.decimal n ⌝ }
+    ensures { λ r. ⌜ ((t : List ℕ) → Line.Holds text t → Line.Holds r (t ++ Line.decimal n)) ⌝ }
 {
     let mut digits = [0u8; 20];
     let k = io::decimal(n as u64, &mut digits);
@@ -65,11 +68,11 @@ fn append_decimal(text: Text, n: usize) -> Text
 
 // The text with a word in hexadecimal after it.
 fn append_hex(text: Text, x: u16) -> Text
-    requires { ⌜ length (text .bytes) ≡ 128 ⌝ }
-    requires { ⌜ text .length + 4 ≤ 128 ⌝ }
-    ensures { λ r. ⌜ length (r .bytes) ≡ 128 ⌝ }
+    requires { ⌜ length (text .bytes) ≡ Line.most ⌝ }
+    requires { ⌜ text .length + 4 ≤ Line.most ⌝ }
+    ensures { λ r. ⌜ length (r .bytes) ≡ Line.most ⌝ }
     ensures { λ r. ⌜ r .length ≡ text .length + 4 ⌝ }
-    ensures { λ r. ⌜ take (r .length) (r .bytes) ≡ take (text .length) (text .bytes) ++ Line.hex x ⌝ }
+    ensures { λ r. ⌜ ((t : List ℕ) → Line.Holds text t → Line.Holds r (t ++ Line.hex x)) ⌝ }
 {
     let digits = hex(x);
     append(text, &digits)
@@ -77,12 +80,12 @@ fn append_hex(text: Text, x: u16) -> Text
 
 // The line's first half: an answer's number and counts.
 fn counts(number: u16, steps: usize, unassigned: usize) -> Text
-    ensures { λ r. ⌜ length (r .bytes) ≡ 128 ⌝ }
+    ensures { λ r. ⌜ length (r .bytes) ≡ Line.most ⌝ }
     ensures { λ r. ⌜ r .length ≤ 86 ⌝ }
-    ensures { λ r. ⌜ take (r .length) (r .bytes) ≡ Line.counts number steps unassigned ⌝ }
+    ensures { λ r. ⌜ Line.Holds r (Line.counts number steps unassigned) ⌝ }
 {
     let empty = Text {
-        bytes: [0; 128],
+        bytes: [0; MOST],
         length: 0,
     };
     let numbered = append_decimal(append(empty, b"answer "), number as usize);
@@ -92,11 +95,11 @@ fn counts(number: u16, steps: usize, unassigned: usize) -> Text
 
 // The text with the line's second half after it: the registers and the line feed.
 fn registers(text: Text, pc: u16, wp: u16, st: u16) -> Text
-    requires { ⌜ length (text .bytes) ≡ 128 ⌝ }
+    requires { ⌜ length (text .bytes) ≡ Line.most ⌝ }
     requires { ⌜ text .length ≤ 86 ⌝ }
-    ensures { λ r. ⌜ length (r .bytes) ≡ 128 ⌝ }
-    ensures { λ r. ⌜ r .length ≤ 128 ⌝ }
-    ensures { λ r. ⌜ take (r .length) (r .bytes) ≡ take (text .length) (text .bytes) ++ Line.registers pc wp st ⌝ }
+    ensures { λ r. ⌜ length (r .bytes) ≡ Line.most ⌝ }
+    ensures { λ r. ⌜ r .length ≤ Line.most ⌝ }
+    ensures { λ r. ⌜ ((t : List ℕ) → Line.Holds text t → Line.Holds r (t ++ Line.registers pc wp st)) ⌝ }
 {
     let at_pc = append_hex(append(text, b" pc "), pc);
     let at_wp = append_hex(append(at_pc, b" wp "), wp);
@@ -107,7 +110,7 @@ fn registers(text: Text, pc: u16, wp: u16, st: u16) -> Text
 // The line of an answer's number, counts and registers.
 pub fn line(number: u16, steps: usize, unassigned: usize, pc: u16, wp: u16, st: u16) -> Text
     ensures { λ r. ⌜ Counts (r .length) (r .bytes) ⌝ }
-    ensures { λ r. ⌜ take (r .length) (r .bytes) ≡ Line.text number steps unassigned pc wp st ⌝ }
+    ensures { λ r. ⌜ Line.Holds r (Line.text number steps unassigned pc wp st) ⌝ }
 {
     registers(counts(number, steps, unassigned), pc, wp, st)
 }

@@ -48,10 +48,10 @@ pub fn record_count(file: &[u8]) -> usize
 }
 
 // The file's records, then zeros.
-pub fn records(file: &[u8]) -> [u32; 16383]
+pub fn records(file: &[u8]) -> [u32; MOST]
     ensures { λ r. ⌜ r ≡ Pins.records (now (file .entry)) ++ drop (length (Pins.records (now (file .entry)))) (replicate Pins.most 0) ⌝ }
 {
-    let mut records = [0u32; 16383];
+    let mut records = [0u32; MOST];
     let n = record_count(file);
     let mut i = 0;
     while i < n {

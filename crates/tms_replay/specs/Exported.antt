@@ -1,26 +1,28 @@
--- The calls as C, Fortran and Rust see them: a state is twelve words in a lent slice, a refusal of our own comes before all others.
+-- The calls as C, Fortran and Rust see them: a state is twelve numbers of 32 bits, counts are two numbers, a block one.
 use Prim.Native.Nat.{ℕ}
-use mathlib.Core.Bool.{_&&_}
+use mathlib.Core.Bool.{Bool, true, _&&_}
 use mathlib.Core.List.{List, [], _∷_}
-use lib.ListN.{length, getD}
-use lib.Dec.{eqb}
+use lib.ListN.{getD}
+use lib.Dec.{eqb, ltb}
 use Rattle.bits.specs.Bits.{if_then_else_}
+use Rattle.psi.specs.Psi as Own
 use Rattle.machine.specs.declared.State.{State}
 use Rattle.machine.specs.Run as Run
-use Rattle.image.specs.Image as Image
+use Rattle.image_blocks.specs.Image as Image
 use Rattle.image.specs.Calls as Calls
 
--- how many words a state is: those of an image's block 0 after format and edition, in that order
+-- how many words a state is: those of an image's block 0 after format and edition, `Image.fields`
 abbrev pub state-words : ℕ
 state-words = 12
 
--- the number of our own: a slice for a state, for counts or for a block has another length
-abbrev pub misfit : ℕ
-misfit = 99
+-- whether each number fits its field of 16 bits
+unfoldable pub fits : List ℕ → Bool
+fits [] = true
+fits (x ∷ w) = ltb x 65536 && fits w
 
 -- the state that twelve words are, in the order of `Image.fields`
-unfoldable pub state-of : List ℕ → State
-state-of w =
+unfoldable pub held : List ℕ → State
+held w =
     record {
       wp = getD w 0 0;
       pc = getD w 1 0;
@@ -38,18 +40,28 @@ state-of w =
       };
     }
 
--- What a call answers and leaves in the slices that were lent to be changed.
+-- a state that is not well formed: WP is odd
+abbrev pub unfit : State
+unfit = record { wp = 1; pc = 0; st = 0; flags = 0; psi = Own.blank }
+
+-- The state of an array: a number that does not fit its field makes it not well formed.
+unfoldable pub state-of : List ℕ → State
+state-of w = if fits w then held w else unfit
+
+-- What a call answers and leaves where it was lent something to be changed.
 pub record Powered : Type 0 where
   pub number : ℕ
   pub memory : List ℕ
   pub state : List ℕ
 
--- power up: the returned state's words are left in the slice, refused or not
-unfoldable pub power-up : List ℕ → List ℕ → Powered
-power-up m w =
-    if eqb (length w) state-words
-    then record { number = Run.power-up m .answer .number; memory = Run.power-up m .memory; state = Image.fields (Run.power-up m .answer .state) }
-    else record { number = misfit; memory = m; state = w }
+-- power up: the returned state, refused or not
+unfoldable pub power-up : List ℕ → Powered
+power-up m =
+    record {
+      number = Run.power-up m .answer .number;
+      memory = Run.power-up m .memory;
+      state = Image.fields (Run.power-up m .answer .state);
+    }
 
 pub record Ran : Type 0 where
   pub number : ℕ
@@ -57,43 +69,36 @@ pub record Ran : Type 0 where
   pub state : List ℕ
   pub counts : List ℕ
 
--- run: the counts are the steps done and how many of them met an unassigned word
-unfoldable pub run : List ℕ → List ℕ → List ℕ → ℕ → ℕ → List ℕ → Ran
-run m w records steps stop k = if eqb (length w) state-words && eqb (length k) 2 then answered else record { number = misfit; memory = m; state = w; counts = k }
-  where
-    ran : Run.RunResult
-    ran = Run.run m (state-of w) records steps stop
+-- what is handed on of a run: the state after, or on a refusal the array as given; the steps done and how many of them met an
+-- unassigned word
+abbrev pub handed : List ℕ → Run.RunResult → Ran
+handed w r =
+    record {
+      number = r .answer .number;
+      memory = r .memory;
+      state = if eqb (r .answer .number) 0 then Image.fields (r .answer .state) else w;
+      counts = r .answer .steps ∷ r .answer .unassigned ∷ [];
+    }
 
-    answered : Ran
-    answered =
-        record {
-          number = ran .answer .number;
-          memory = ran .memory;
-          state = Image.fields (ran .answer .state);
-          counts = ran .answer .steps ∷ ran .answer .unassigned ∷ [];
-        }
+-- run, on the state of the array
+unfoldable pub run : List ℕ → List ℕ → List ℕ → ℕ → ℕ → Ran
+run m w records steps stop = handed w (Run.run m (state-of w) records steps stop)
 
 pub record Read : Type 0 where
   pub number : ℕ
   pub memory : List ℕ
   pub state : List ℕ
-  pub block : List ℕ
+  pub block : ℕ
 
--- reading an image: the block is the one that refusals 6 and 7 name, else 0
-unfoldable pub read : List ℕ → List ℕ → List ℕ → List ℕ → Read
-read img m w b = if eqb (length w) state-words && eqb (length b) 1 then answered else record { number = misfit; memory = m; state = w; block = b }
-  where
-    found : Calls.ReadResult
-    found = Calls.read img m
-
-    answered : Read
-    answered =
-        record {
-          number = found .answer .number;
-          memory = found .memory;
-          state = Image.fields (found .answer .state);
-          block = found .answer .block ∷ [];
-        }
+-- reading an image: the returned state, refused or not; the block that refusals 6 and 7 name, else 0
+unfoldable pub read : List ℕ → List ℕ → Read
+read img m =
+    record {
+      number = Calls.read img m .answer .number;
+      memory = Calls.read img m .memory;
+      state = Image.fields (Calls.read img m .answer .state);
+      block = Calls.read img m .answer .block;
+    }
 
 pub record Written : Type 0 where
   pub number : ℕ
@@ -102,6 +107,4 @@ pub record Written : Type 0 where
 -- writing an image
 unfoldable pub write : List ℕ → List ℕ → List ℕ → Written
 write w m img =
-    if eqb (length w) state-words
-    then record { number = Calls.write (state-of w) m img .answer .number; image = Calls.write (state-of w) m img .image }
-    else record { number = misfit; image = img }
+    record { number = Calls.write (state-of w) m img .answer .number; image = Calls.write (state-of w) m img .image }

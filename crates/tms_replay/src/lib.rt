@@ -20,8 +20,7 @@ pub fn power_up(bytes: &mut [u8]) -> StateAnswer
 
 // Runs at most `steps` steps, one record each, up to the stop address.
 pub fn run(bytes: &mut [u8], state: State, records: &[u32], steps: usize, stop: u16) -> RunAnswer
-    ensures { λ r. ⌜ r ≡ Run.run (now (bytes .entry)) state (now (records .entry)) steps stop .answer ⌝ }
-    ensures { λ _. ⌜ now (bytes .exit) ≡ Run.run (now (bytes .entry)) state (now (records .entry)) steps stop .memory ⌝ }
+    ensures { λ r. ⌜ Run.Promised (now (bytes .entry)) state (now (records .entry)) steps stop r (now (bytes .exit)) ⌝ }
 {
     replay_core::run::run(bytes, state, records, steps, stop)
 }

@@ -6,10 +6,10 @@ use native.Mathlib.Omega.{arith}
 use borrow.Author.Needs.{needs}
 use lib.ListN.{length, take, drop, drop-of-length-le}
 use lib.Seq.{take-all}
-use Rattle.image.specs.Image as Image
-use Rattle.image.specs.Image.{image-size}
-use Rattle.image.proofs.Lists.{grown, grown-length}
-use Rattle.image.proofs.Written.{image-block, image-length}
+use Rattle.image_blocks.specs.Image as Image
+use Rattle.image_blocks.specs.Image.{image-size}
+use Rattle.image_blocks.proofs.Lists.{grown, grown-length}
+use Rattle.image_blocks.proofs.Written.{image-block, image-length}
 use Rattle.image.proofs.fill_image.Statement.{statement}
 use Rattle.image.proofs.fill_image.Tie as tie
 

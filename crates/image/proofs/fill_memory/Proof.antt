@@ -6,9 +6,9 @@ use native.Mathlib.Omega.{arith}
 use borrow.Author.Needs.{needs}
 use lib.ListN.{length, take, drop, drop-of-length-le}
 use lib.Seq.{take-all}
-use Rattle.image.specs.Image.{memory-of}
-use Rattle.image.proofs.Lists.{grown, grown-length}
-use Rattle.image.proofs.Parts.{memory-part, memory-length}
+use Rattle.image_blocks.specs.Image.{memory-of}
+use Rattle.image_blocks.proofs.Lists.{grown, grown-length}
+use Rattle.image_blocks.proofs.Parts.{memory-part, memory-length}
 use Rattle.image.proofs.fill_memory.Statement.{statement}
 use Rattle.image.proofs.fill_memory.Tie as tie
 
@@ -37,6 +37,9 @@ mul-start c = omega arith
 
 add-start : tie.Need-add-start Inv-loop μ-loop
 add-start c = omega arith
+
+add-start-2 : tie.Need-add-start-2 Inv-loop μ-loop
+add-start-2 c = omega arith
 
 sub-end : tie.Need-sub-end Inv-loop μ-loop
 sub-end c = omega arith
@@ -75,8 +78,8 @@ loop-again c =
     let a = l .before .before .before .args in
     let i : ℕ = l .loop .i in
     let to : ℕ = k .carried .result in
-    let part : take (512 * i + 514 + (to - 508 * i) - (512 * i + 514)) (drop (512 * i + 514) (a .image .now)) ≡ take (to - 508 * i) (drop (508 * i) (memory-of (a .image .now))) =
-    rw (let e : 512 * i + 514 + (to - 508 * i) - (512 * i + 514) ≡ to - 508 * i = omega arith in e)
+    let part : take (512 * (i + 1) + 2 + (to - 508 * i) - (512 * (i + 1) + 2)) (drop (512 * (i + 1) + 2) (a .image .now)) ≡ take (to - 508 * i) (drop (508 * i) (memory-of (a .image .now))) =
+    rw (let e : 512 * (i + 1) + 2 + (to - 508 * i) - (512 * (i + 1) + 2) ≡ to - 508 * i = omega arith in e)
     (sym (memory-part (a .image .now) i (to - 508 * i) (omega arith) (omega arith) (omega arith) (omega arith))) in
     let same : length (memory-of (a .image .now)) ≡ length (a .lent .now) = omega (arith, memory-length (a .image .now) (omega arith)) in
     let so-far = rw (let e : min (508 * i) 16384 ≡ 508 * i = omega arith in e) at (l .loop .inv .2) in
@@ -111,8 +114,9 @@ fill-memory-spec =
     mul-from
     add-carried
     carried-requires
-    mul-start
     add-start
+    mul-start
+    add-start-2
     sub-end
     add-end
     sub-copy

@@ -4,8 +4,8 @@ use mathlib.Core.Bool.{_&&_}
 use mathlib.Core.List.{List}
 use Prim.Native.Nat.{ℕ}
 use native.Mathlib.Omega.{arith}
-use Rattle.image.specs.Image.{image-size, filler-of, zeros}
-use Rattle.image.proofs.Parts.{filler-lies, zeros-append}
+use Rattle.image_blocks.specs.Image.{image-size, filler-of, zeros}
+use Rattle.image_blocks.proofs.Parts.{filler-lies, zeros-append}
 use lib.ListN.{length, take, drop}
 use borrow.Author.Tests.{not-true, not-false}
 use borrow.Author.Needs.{needs}

@@ -7,7 +7,8 @@ use borrow.Author.Needs.{needs}
 use borrow.Author.Tests.{eq-eqb, ne-eqb}
 use lib.Dec.{eqb}
 use Rattle.bits.specs.Bits.{if_then_else_}
-use Rattle.image.specs.Calls.{first-fault, block-fault}
+use Rattle.image_blocks.specs.Image.{block-fault}
+use Rattle.image.specs.Calls.{first-fault}
 use Rattle.image.proofs.first_fault.Statement.{statement}
 use Rattle.image.proofs.first_fault.Tie as tie
 

@@ -1,6 +1,7 @@
 -- `read_image` meets its contract: a refusal gives back what it was given, and an accepted image its state and its memory.
 use mathlib.Core.Path.{sym, ap, _∙_}
-use Rattle.image.specs.Calls.{Fault, read}
+use Rattle.image.specs.declared.Fault.{Fault}
+use Rattle.image.specs.Calls.{read}
 use Rattle.image.proofs.Accepted.{accepted}
 use borrow.Author.Tests.{eq-eqb, ne-eqb}
 use borrow.Author.Needs.{needs}

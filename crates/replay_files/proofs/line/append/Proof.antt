@@ -1,8 +1,8 @@
 -- `append` meets its contract: what is copied behind the first bytes stands there.
 use Prim.Native.Nat.{_+_}
-use mathlib.Core.Path.{refl}
+use mathlib.Core.Path.{refl, sym}
 use native.Mathlib.Omega.{arith}
-use lib.ListN.{length}
+use lib.ListN.{length, length-append}
 use Rattle.replay_files.proofs.Numbers.{appended, appended-length}
 use borrow.Author.Needs.{needs}
 use Rattle.replay_files.proofs.line.append.Statement.{statement}
@@ -15,9 +15,18 @@ returns : tie.Need-returns
 returns c =
     let a = c .before .before .before .before .before .args in
     let copied = c .before .copy .ensures .1 in
-    let whole = appended (a .text .bytes) (a .part .now) (c .before .copy .last .1 .0) (a .text .length) (a .text .length + length (a .part .now)) refl (omega arith) copied in
-    let long = appended-length (a .text .bytes) (a .part .now) (c .before .copy .last .1 .0) (a .text .length) (a .text .length + length (a .part .now)) refl (omega arith) copied in
-    (omega (arith, long), (refl, whole))
+    let to = a .text .length + length (a .part .now) in
+    let long = appended-length (a .text .bytes) (a .part .now) (c .before .copy .last .1 .0) (a .text .length) to refl (omega arith) copied in (
+      omega (arith, long),
+      (
+        refl,
+        λ t h.
+            record {
+              end = rw (h .end) (sym (length-append t (a .part .now)));
+              bytes = appended t (a .text .bytes) (a .part .now) (c .before .copy .last .1 .0) (a .text .length) to (h .bytes) (h .end) refl (omega arith) copied;
+            },
+      ),
+    )
 
 pub append-spec : {M : Type 1} → statement M
 append-spec =

@@ -23,7 +23,7 @@ returns c =
     let d = c .before .before .decimal in
     let n = c .before .before .before .before .args .n in
     let same : d .result ≡ places n = fewest-one n (d .result) (places n) (d .ensures .1 .0) (fewest-places n (omega arith)) in
-    (c .append .ensures .0, (omega (arith, c .append .ensures .1 .0, length-take (d .result) (d .last .1 .0), same, places-few n), rw (c .append .ensures .1 .1, d .ensures .1 .1, same)))
+    (c .append .ensures .0, (omega (arith, c .append .ensures .1 .0, length-take (d .result) (d .last .1 .0), same, places-few n), λ t h. rw (← same, ← d .ensures .1 .1) (c .append .ensures .1 .1 t h)))
 
 pub append-decimal-spec : {M : Type 1} → statement M
 append-decimal-spec =

@@ -1,4 +1,6 @@
 -- `counts` meets its contract: the parts go one behind the other.
+use mathlib.Core.Path.{refl}
+use mathlib.Core.List.{[]}
 use native.Mathlib.Omega.{arith}
 use Rattle.replay_files.specs.Line.{counts}
 use borrow.Author.Needs.{needs}
@@ -13,14 +15,12 @@ returns c =
       c .append-decimal3 .ensures .0,
       (
         omega arith,
-        rw (
-          c .append-decimal3 .ensures .1 .1,
-          c .before .append3 .ensures .1 .1,
-          two .append-decimal2 .ensures .1 .1,
-          two .before .append2 .ensures .1 .1,
-          one .append-decimal .ensures .1 .1,
-          one .before .append .ensures .1 .1,
-        ),
+        c .append-decimal3 .ensures .1 .1 _
+            (c .before .append3 .ensures .1 .1 _
+            (two .append-decimal2 .ensures .1 .1 _
+            (two .before .append2 .ensures .1 .1 _
+            (one .append-decimal .ensures .1 .1 _
+            (one .before .append .ensures .1 .1 [] (record { end = refl; bytes = refl })))))),
       ),
     )
 

@@ -13,7 +13,7 @@ returns : tie.Need-returns
 unfolding text
 returns c =
     let fits : c .registers .result .length ≤ length (c .registers .result .bytes) = omega (arith, c .registers .ensures .0, c .registers .ensures .1 .0) in
-    ((fits, sym (length-take-le _ _ fits)), rw (c .registers .ensures .1 .1, c .before .counts .ensures .1 .1))
+    ((fits, sym (length-take-le _ _ fits)), c .registers .ensures .1 .1 _ (c .before .counts .ensures .1 .1))
 
 pub line-spec : {M : Type 1} → statement M
 line-spec = tie.close (tie.spec (λ c κs. search needs) (λ c κs. search needs) returns)

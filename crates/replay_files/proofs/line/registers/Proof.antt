@@ -1,7 +1,7 @@
 -- `registers` meets its contract: the parts go one behind the other.
 use native.Mathlib.Omega.{arith}
-use lib.ListN.{take}
-use Rattle.replay_files.specs.Line.{registers, hex, pc-label, wp-label, st-label, line-feed}
+use mathlib.Core.Path.{subst}
+use Rattle.replay_files.specs.Line.{Holds, registers, hex, pc-label, wp-label, st-label, line-feed}
 use Rattle.replay_files.proofs.Numbers.{regroup}
 use borrow.Author.Needs.{needs}
 use Rattle.replay_files.proofs.line.registers.Statement.{statement}
@@ -17,15 +17,14 @@ returns c =
       c .append4 .ensures .0,
       (
         omega arith,
-        rw (
-          c .append4 .ensures .1 .1,
-          three .append-hex3 .ensures .1 .1,
-          three .before .append3 .ensures .1 .1,
-          two .append-hex2 .ensures .1 .1,
-          two .before .append2 .ensures .1 .1,
-          one .append-hex .ensures .1 .1,
-          one .before .append .ensures .1 .1,
-        ) (regroup (take (a .text .length) (a .text .bytes)) pc-label (hex (a .pc)) wp-label (hex (a .wp)) st-label (hex (a .st)) line-feed),
+        λ t h.
+            subst (Holds (c .append4 .result)) (regroup t pc-label (hex (a .pc)) wp-label (hex (a .wp)) st-label (hex (a .st)) line-feed)
+            (c .append4 .ensures .1 .1 _
+            (three .append-hex3 .ensures .1 .1 _
+            (three .before .append3 .ensures .1 .1 _
+            (two .append-hex2 .ensures .1 .1 _
+            (two .before .append2 .ensures .1 .1 _
+            (one .append-hex .ensures .1 .1 _ (one .before .append .ensures .1 .1 t h))))))),
       ),
     )
 

@@ -1,0 +1,42 @@
+-- Demand 3 for any list of calls of `tms_run`.
+use Prim.Native.Nat.{ℕ}
+use mathlib.Core.Path.{_≡_}
+use mathlib.Core.List.{List, [], _∷_}
+use lib.ListN.{getD}
+use Rattle.machine.specs.State.{at}
+use Rattle.book.specs.Book.{Call, all-moments}
+use Rattle.book_claim.specs.Claim.{Seen, calls, Each, Respected, Kept, Calls-kept}
+use Rattle.tms_replay.specs.Exported as Exported
+use Rattle.tms_replay.specs.Exported.{Ran, state-of}
+
+-- what was observed of a call: its arguments, and what it answered and left
+pub record Observed : Type 0 where
+  pub call : Call
+  pub ran : Ran
+
+-- each call meets the contract of `tms_run` on the array and the memory that the one before it left
+unfoldable pub Linked : List ℕ → List ℕ → List Observed → Type 0
+Linked w m [] = Unit
+Linked w m (x ∷ xs) =
+    (x .ran ≡ Exported.run m w (x .call .records) (x .call .steps) (x .call .stop)) × Linked (x .ran .state) (x .ran .memory) xs
+
+-- the same as a call of run: the state of the array, and the two counts
+abbrev pub as-seen : Call → Ran → Seen
+as-seen c r =
+    record {
+      call = c;
+      answer = record { number = r .number; state = state-of (r .state); steps = getD (r .counts) 0 0; unassigned = getD (r .counts) 1 0 };
+      memory = r .memory;
+    }
+
+unfoldable pub seen : List Observed → List Seen
+seen [] = []
+seen (x ∷ xs) = as-seen (x .call) (x .ran) ∷ seen xs
+
+-- The claim `Open-entries-are-kept`, for any first array and memory and any list of calls of `tms_run`.
+abbrev pub Open-entries-are-kept-by-tms-run : Type 0
+Open-entries-are-kept-by-tms-run =
+    (w m : List ℕ) (xs : List Observed)
+    → Linked w m xs
+    → Each Respected (all-moments (at (state-of w) m) [] (calls (seen xs)))
+    → Each Kept (all-moments (at (state-of w) m) [] (calls (seen xs))) × Calls-kept (at (state-of w) m) [] (seen xs)

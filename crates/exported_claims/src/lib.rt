@@ -1,0 +1,1 @@
+// No code: theorems about the exported calls, in specs/ and proofs/.

@@ -1,0 +1,224 @@
+// Single blocks: made, judged, and taken apart.
+ghost use mathlib.Core.Path.{_≡_};
+ghost use mathlib.Core.List.{List};
+ghost use Prim.Native.Nat.{ℕ, suc, min, _+_, _-_, _*_, _%_, _<_, _≤_};
+ghost use lib.ListN.{length, take};
+ghost use Rattle.memory.specs.Memory.{Installed, size};
+ghost use Rattle.image_blocks.specs.Image as Image;
+ghost use Rattle.image_blocks.specs.Blocks as Blocks;
+use machine::State;
+use psi::Psi;
+
+// The bytes of a block: its number, its content, and from `CHECK` on its check word.
+pub const BLOCK_SIZE: usize = 512;
+
+pub const CONTENT: usize = 2;
+
+pub const CHECK: usize = BLOCK_SIZE - 2;
+
+pub const CONTENT_SIZE: usize = CHECK - CONTENT;
+
+// The blocks of an image, the last of them, and the bytes of all.
+pub const BLOCKS: usize = 34;
+
+pub const LAST: usize = BLOCKS - 1;
+
+pub const IMAGE_SIZE: usize = BLOCKS * BLOCK_SIZE;
+
+// Block 0's content begins with these two words.
+pub const FORMAT: u16 = 0x9901;
+
+pub const EDITION: u16 = 1;
+
+// The fields of block 0, a word each: format, edition, WP, PC, ST and flags, and from `PSI_FIELD` on the PSI's.
+pub const PSI_FIELD: usize = 6;
+
+pub const FIELDS: usize = PSI_FIELD + Psi::WORDS;
+
+// The filler: in block 0 after the fields, and in the last block after the memory's last byte.
+pub const REST: usize = CONTENT + 2 * FIELDS;
+
+pub const TAIL: usize = BLOCK_SIZE * LAST + CONTENT + (memory::SIZE - CONTENT_SIZE * (LAST - 1));
+
+pub const TAIL_END: usize = BLOCK_SIZE * LAST + CHECK;
+
+// A block's words sum to this.
+pub const SUM: u16 = 0xFFFF;
+
+// The sum of the words that the bytes are, modulo 65536.
+fn words_sum(part: &[u8]) -> u16
+    ensures { λ r. ⌜ r ≡ Image.words-sum (now (part .entry)) % 65536 ⌝ }
+{
+    let mut sum: u16 = 0;
+    let mut at = 0;
+    while part.len() - at > 1 {
+        sum = std::num::wrapping_add_u16(sum, memory::word(part[at], part[at + 1]));
+        at += 2;
+    }
+    sum
+}
+
+// Whether all bytes are 0.
+pub fn zeros(part: &[u8]) -> bool
+    ensures { λ r. ⌜ r ≡ Image.zeros (now (part .entry)) ⌝ }
+{
+    let mut i = 0;
+    while i < part.len() {
+        if part[i] != 0 {
+            return false;
+        }
+        i += 1;
+    }
+    true
+}
+
+// How many bytes of memory the blocks from 1 to `i` carry.
+pub fn carried(i: usize) -> usize
+    requires { ⌜ i < Image.block-count ⌝ }
+    ensures { λ r. ⌜ r ≡ min (Image.content-size * i) size ⌝ }
+{
+    if i < LAST {
+        CONTENT_SIZE * i
+    } else {
+        memory::SIZE
+    }
+}
+
+// Puts a word at a byte of a block.
+fn put_word(block: &mut [u8; BLOCK_SIZE], at: usize, word: u16)
+    requires { ⌜ at < Image.block-size - 1 ⌝ }
+    ensures { λ _. ⌜ now (block .exit) ≡ Blocks.put-word (now (block .entry)) at word ⌝ }
+{
+    block[at] = (word / 256) as u8;
+    block[at + 1] = (word % 256) as u8;
+}
+
+// Puts field `n` into block 0.
+fn put_field(block: &mut [u8; BLOCK_SIZE], n: usize, word: u16)
+    requires { ⌜ n < Image.field-count ⌝ }
+    ensures { λ _. ⌜ now (block .exit) ≡ Blocks.put-word (now (block .entry)) (2 * n + 2) word ⌝ }
+{
+    put_word(block, 2 * n + CONTENT, word);
+}
+
+// Block 0 without its check word.
+fn header(state: State) -> [u8; BLOCK_SIZE]
+    ensures { λ r. ⌜ ((m : List ℕ) → r ≡ Blocks.unchecked state m 0) ⌝ }
+{
+    let mut block = [0u8; BLOCK_SIZE];
+    let psi = state.psi;
+    put_field(&mut block, 0, FORMAT);
+    put_field(&mut block, 1, EDITION);
+    put_field(&mut block, 2, state.wp);
+    put_field(&mut block, 3, state.pc);
+    put_field(&mut block, 4, state.st);
+    put_field(&mut block, 5, state.flags);
+    put_field(&mut block, PSI_FIELD, psi.mask);
+    put_field(&mut block, PSI_FIELD + 1, psi.direction);
+    put_field(&mut block, PSI_FIELD + 2, psi.latch);
+    put_field(&mut block, PSI_FIELD + 3, psi.load);
+    put_field(&mut block, PSI_FIELD + 4, psi.decrementer);
+    put_field(&mut block, PSI_FIELD + 5, psi.reading);
+    put_field(&mut block, PSI_FIELD + 6, psi.phase);
+    put_field(&mut block, PSI_FIELD + 7, psi.pending);
+    block
+}
+
+// Block `i` + 1, which carries memory, without its check word.
+fn page(lent: &[u8], i: usize) -> [u8; BLOCK_SIZE]
+    requires { ⌜ Installed (now lent) ⌝ }
+    requires { ⌜ i < Image.page-count ⌝ }
+    ensures { λ r. ⌜ ((s : State) → r ≡ Blocks.unchecked s (now (lent .entry)) (suc i)) ⌝ }
+{
+    let mut block = [0u8; BLOCK_SIZE];
+    put_word(&mut block, 0, (i + 1) as u16);
+    let from = CONTENT_SIZE * i;
+    let to = carried(i + 1);
+    bytes::copy(&lent[from..to], &mut block[CONTENT..CHECK]);
+    block
+}
+
+// A block with its check word put in.
+fn checked(block: [u8; BLOCK_SIZE]) -> [u8; BLOCK_SIZE]
+    ensures { λ r. ⌜ r ≡ Image.checked (take Image.check-at block) ⌝ }
+{
+    let mut made = block;
+    let sum = words_sum(&made[..CHECK]);
+    put_word(&mut made, CHECK, SUM - sum);
+    made
+}
+
+// Block `i` of the image.
+pub fn block(state: State, lent: &[u8], i: usize) -> [u8; BLOCK_SIZE]
+    requires { ⌜ Installed (now lent) ⌝ }
+    requires { ⌜ i < Image.block-count ⌝ }
+    ensures { λ r. ⌜ r ≡ Image.block state (now (lent .entry)) i ⌝ }
+{
+    if i == 0 {
+        checked(header(state))
+    } else {
+        checked(page(lent, i - 1))
+    }
+}
+
+// The refusal that block `i` by itself calls for, or 0: first the check, then the number.
+pub fn block_fault(image: &[u8], i: usize) -> u16
+    requires { ⌜ length (now image) ≡ Image.image-size ⌝ }
+    requires { ⌜ i < Image.block-count ⌝ }
+    ensures { λ r. ⌜ r ≡ Image.block-fault (now (image .entry)) i ⌝ }
+{
+    let from = BLOCK_SIZE * i;
+    let low = from + 1;
+    let to = from + BLOCK_SIZE;
+    let sum = words_sum(&image[from..to]);
+    let number = memory::word(image[from], image[low]) as usize;
+    if sum != SUM {
+        return 6;
+    }
+    if number != i {
+        return 7;
+    }
+    0
+}
+
+// Word `n` of block 0's content.
+pub fn field(image: &[u8], n: usize) -> u16
+    requires { ⌜ length (now image) ≡ Image.image-size ⌝ }
+    requires { ⌜ n < Image.field-count ⌝ }
+    ensures { λ r. ⌜ r ≡ Image.field-of (now (image .entry)) n ⌝ }
+{
+    let at = 2 * n + CONTENT;
+    memory::word(image[at], image[at + 1])
+}
+
+// The PSI that block 0 holds.
+fn psi_of(image: &[u8]) -> Psi
+    requires { ⌜ length (now image) ≡ Image.image-size ⌝ }
+    ensures { λ r. ⌜ r ≡ Image.psi-of (now (image .entry)) ⌝ }
+{
+    let mut psi = Psi::blank();
+    psi.mask = field(image, PSI_FIELD);
+    psi.direction = field(image, PSI_FIELD + 1);
+    psi.latch = field(image, PSI_FIELD + 2);
+    psi.load = field(image, PSI_FIELD + 3);
+    psi.decrementer = field(image, PSI_FIELD + 4);
+    psi.reading = field(image, PSI_FIELD + 5);
+    psi.phase = field(image, PSI_FIELD + 6);
+    psi.pending = field(image, PSI_FIELD + 7);
+    psi
+}
+
+// The state that block 0 holds.
+pub fn state_of(image: &[u8]) -> State
+    requires { ⌜ length (now image) ≡ Image.image-size ⌝ }
+    ensures { λ r. ⌜ r ≡ Image.state-of (now (image .entry)) ⌝ }
+{
+    let psi = psi_of(image);
+    State {
+        wp: field(image, 2),
+        pc: field(image, 3),
+        st: field(image, 4),
+        flags: field(image, 5),
+        psi,
+    }
+}

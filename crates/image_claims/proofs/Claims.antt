@@ -1,0 +1,80 @@
+-- The claims: what is written is read back, what is read is written back, a read's number is the table's, and its block the lowest bad one.
+use Prim.Native.Nat.{ℕ, _<_}
+use native.Mathlib.Omega.{arith}
+use mathlib.Core.Path.{_≡_, refl, sym, _∙_}
+use mathlib.Core.Bool.{Bool, true, false}
+use mathlib.Core.List.{List}
+use native.Mathlib.Nat.{zero-add}
+use borrow.Author.Tests.{eq-eqb, ne-eqb, eqb-true}
+use lib.ListN.{length}
+use lib.Dec.{eqb}
+use Rattle.memory.specs.Memory.{size}
+use Rattle.machine.specs.declared.State.{State}
+use Rattle.machine.specs.State.{well-formed}
+use Rattle.image_blocks.specs.Image as Image
+use Rattle.image.specs.declared.Fault.{Fault}
+use Rattle.image.specs.Calls.{read, read-fault, first-fault, write, write-fault}
+use Rattle.image_claims.specs.Claims.{Reads-what-was-written, Writes-what-was-read, Accepted-exactly, Sound-block, Lowest, Names-the-lowest}
+use Rattle.image_blocks.proofs.Parts.{memory-length}
+use Rattle.image_claims.proofs.Written.{read-written}
+use Rattle.image.proofs.Accepted.{Accepted, accepted}
+use Rattle.image_claims.proofs.Accepted.{right, each-right, Sound, sound}
+use Rattle.image_claims.proofs.Read.{image-back}
+use Rattle.image_claims.proofs.Lowest.{Low, low, judged, wrong-check, right-check, wrong-number}
+
+-- a well-formed state, a memory and a buffer of the right sizes are written
+writes :
+    (s : State) (m buffer : List ℕ) → well-formed s ≡ true → length m ≡ size → length buffer ≡ Image.image-size
+    → write s m buffer ≡ record { answer = record { number = 0; state = s }; image = Image.image s m }
+unfolding write write-fault
+writes s m buffer f h b = rw (eq-eqb (length m) size h, eq-eqb (length buffer) Image.image-size b, f)
+
+pub reads-what-was-written : Reads-what-was-written
+reads-what-was-written s m buffer other w f h _ b o = rw (writes s m buffer f h b) (read-written s m other w f h o)
+
+pub accepted-exactly : Accepted-exactly
+unfolding read
+accepted-exactly img m = by-test (eqb (read-fault img m .number) 0) refl
+  where
+    by-test : (t : Bool) → eqb (read-fault img m .number) 0 ≡ t → read img m .answer .number ≡ read-fault img m .number
+    by-test true e = rw e (sym (eqb-true (read-fault img m .number) 0 e))
+    by-test false e = rw e
+
+-- an accepted read gives the state and the memory that the image holds
+reads :
+    (img m : List ℕ) → read-fault img m .number ≡ 0
+    → read img m ≡ record { answer = record { number = 0; block = 0; state = Image.state-of img }; memory = Image.memory-of img }
+unfolding read
+reads img m h = rw (eq-eqb (read-fault img m .number) 0 h)
+
+pub writes-what-was-read : Writes-what-was-read
+writes-what-was-read img m buffer bytes zero-read b =
+    let none : read-fault img m .number ≡ 0 = sym (accepted-exactly img m) ∙ zero-read in
+    let a : Accepted img m = accepted img m none in
+    let k : Sound img = sound img (a .content-right) in
+    let each : (i : ℕ) → i < 34 → Sound-block img i = λ i l. right img i (rw (zero-add i) at (each-right img 34 0 i (a .blocks-right) l)) in
+    rw (
+      reads img m none,
+      writes (Image.state-of img) (Image.memory-of img) buffer (k .formed) (memory-length img (a .image-sized)) b,
+      image-back img (a .image-sized) bytes k each,
+    )
+
+-- a refused read hands on the number and the block that were found
+refused : (img m : List ℕ) → 0 < read-fault img m .number → read img m .answer .block ≡ read-fault img m .block
+unfolding read
+refused img m h = rw (ne-eqb (read-fault img m .number) 0 (omega arith))
+
+pub names-the-lowest : Names-the-lowest
+names-the-lowest img m above below =
+    let number : read img m .answer .number ≡ read-fault img m .number = accepted-exactly img m in
+    let block : read img m .answer .block ≡ read-fault img m .block = refused img m (omega arith) in
+    let first : read-fault img m ≡ first-fault img Image.block-count 0 = judged img m (omega arith) (omega arith) in
+    let found : Low img Image.block-count 0 (first-fault img Image.block-count 0) = low img Image.block-count 0 (rw first at (let e : 0 < read-fault img m .number = omega arith in e)) in
+    rw (number, block, first)
+    (record {
+      there = found .to;
+      check-wrong = λ e. wrong-check img _ (found .bad ∙ e);
+      check-right = λ e. right-check img _ (found .bad ∙ e);
+      number-wrong = λ e. wrong-number img _ (found .bad ∙ e);
+      lower = λ i l. right img i (found .lower i (omega arith) l);
+    })

@@ -1,0 +1,64 @@
+! The replay machine for a TMS 9980A with a TMS 9901, for Fortran. What is lent, what the answers mean and what a caller
+! owes stands in tms_replay.h; the names are the same. Compile this file with the program, and link
+! target/staticlib/libtms_replay.a, which `rt staticlib tms_replay` writes.
+
+module tms_replay
+  use, intrinsic :: iso_c_binding, only: c_int8_t, c_int16_t, c_int32_t, c_int64_t, c_size_t
+  implicit none
+
+  ! Sizes: the memory's and an image's bytes, a state's words, a run's counts.
+  integer(c_size_t), parameter :: tms_memory_size = 16384, tms_image_size = 17408
+  integer, parameter :: tms_state_words = 12, tms_counts = 2
+
+  ! The words of a state, each a number from 0 to 65535.
+  integer, parameter :: tms_wp = 1, tms_pc = 2, tms_st = 3, tms_flags = 4, tms_mask = 5, tms_direction = 6, &
+      tms_latch = 7, tms_load = 8, tms_decrementer = 9, tms_reading = 10, tms_phase = 11, tms_pending = 12
+
+  ! A run's counts.
+  integer, parameter :: tms_steps = 1, tms_unassigned = 2
+
+  ! Fortran has no unsigned integers: bytes, records and the stop address are given by their bits.
+  interface
+    function tms_power_up(memory, memory_len, state) bind(c)
+      import
+      integer(c_int8_t), intent(inout) :: memory(*)
+      integer(c_size_t), value :: memory_len
+      integer(c_int32_t), intent(out) :: state(tms_state_words)
+      integer(c_int16_t) :: tms_power_up
+    end function
+
+    function tms_run(memory, memory_len, state, records, records_len, steps, stop_at, counts) bind(c)
+      import
+      integer(c_int8_t), intent(inout) :: memory(*)
+      integer(c_size_t), value :: memory_len
+      integer(c_int32_t), intent(inout) :: state(tms_state_words)
+      integer(c_int32_t), intent(in) :: records(*)
+      integer(c_size_t), value :: records_len
+      integer(c_size_t), value :: steps
+      integer(c_int16_t), value :: stop_at
+      integer(c_int64_t), intent(out) :: counts(tms_counts)
+      integer(c_int16_t) :: tms_run
+    end function
+
+    function tms_read_image(image, image_len, memory, memory_len, state, block_number) bind(c)
+      import
+      integer(c_int8_t), intent(in) :: image(*)
+      integer(c_size_t), value :: image_len
+      integer(c_int8_t), intent(inout) :: memory(*)
+      integer(c_size_t), value :: memory_len
+      integer(c_int32_t), intent(out) :: state(tms_state_words)
+      integer(c_int32_t), intent(out) :: block_number
+      integer(c_int16_t) :: tms_read_image
+    end function
+
+    function tms_write_image(state, memory, memory_len, image, image_len) bind(c)
+      import
+      integer(c_int32_t), intent(in) :: state(tms_state_words)
+      integer(c_int8_t), intent(in) :: memory(*)
+      integer(c_size_t), value :: memory_len
+      integer(c_int8_t), intent(inout) :: image(*)
+      integer(c_size_t), value :: image_len
+      integer(c_int16_t) :: tms_write_image
+    end function
+  end interface
+end module
