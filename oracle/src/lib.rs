@@ -13,7 +13,6 @@ pub mod run;
 pub mod sample;
 pub mod seeds;
 pub mod state;
-pub mod table;
 
 pub use bus::{Access, Bus, Memory, MEMORY_SIZE};
 pub use cpu::{Machine, Step};

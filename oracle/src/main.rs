@@ -1,7 +1,6 @@
 //! `oracle replay IMAGE PINS OUT`: reads an image and a pin file, runs, writes
 //! the image after, and prints one line.
 //! `oracle sample FOLDER`: writes the stored samples below a folder.
-//! `oracle table SEED COUNT`: prints a table of random steps for the checker.
 //! `oracle expect NAME`: prints what the test program NAME is to write.
 
 use std::ffi::OsString;
@@ -31,10 +30,6 @@ fn main() -> ExitCode {
             Ok(()) => ExitCode::SUCCESS,
             Err(message) => failure(&message),
         },
-        (["table", seed, count], _) => match (seed.parse(), count.parse()) {
-            (Ok(seed), Ok(count)) => print(&oracle::table::table(seed, count)),
-            _ => usage(),
-        },
         (["expect", name], _) => match oracle::expect::expect(name) {
             Some(text) => print(&text),
             None => usage(),
@@ -52,7 +47,7 @@ fn print(text: &str) -> ExitCode {
 
 fn usage() -> ExitCode {
     eprintln!(
-        "usage: oracle replay IMAGE PINS OUT\n       oracle sample FOLDER\n       oracle table SEED COUNT\n       oracle expect NAME"
+        "usage: oracle replay IMAGE PINS OUT\n       oracle sample FOLDER\n       oracle expect NAME"
     );
     ExitCode::from(2)
 }

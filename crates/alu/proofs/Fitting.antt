@@ -21,11 +21,11 @@ use Rattle.alu.proofs.Shifting.{amount-bounds, room}
 pub compared-fits : Compared-fits
 unfolding compared
 compared-fits w a b st h =
-    put-fits 15 _ _ (omega arith) (put-fits 14 _ _ (omega arith) (put-fits 13 _ _ (omega arith) h))
+    put-fits 16 15 _ _ (omega arith) (put-fits 16 14 _ _ (omega arith) (put-fits 16 13 _ _ (omega arith) h))
 
 pub parity-fits : Parity-fits
 unfolding parity
-parity-fits Byte v st h = put-fits 10 _ _ (omega arith) h
+parity-fits Byte v st h = put-fits 16 10 _ _ (omega arith) h
 parity-fits Word v st h = h
 
 pub judged-fits : Judged-fits
@@ -34,7 +34,7 @@ judged-fits w v st h = parity-fits w v _ (compared-fits w v 0 st h)
 
 pub carried-fits : Carried-fits
 unfolding carried
-carried-fits c o st h = put-fits 12 _ _ (omega arith) (put-fits 11 _ _ (omega arith) h)
+carried-fits c o st h = put-fits 16 12 _ _ (omega arith) (put-fits 16 11 _ _ (omega arith) h)
 
 pub sum-fits : Sum-fits
 unfolding sum
@@ -69,7 +69,7 @@ shift-value-fits Src v k fits small = room v k fits small .rotated
 
 shift-overflow-fits : (op : ShiftOp) (v k st : ℕ) → st < 65536 → shift-overflow op v k st < 65536
 unfolding shift-overflow
-shift-overflow-fits Sla v k st h = put-fits 11 _ _ (omega arith) h
+shift-overflow-fits Sla v k st h = put-fits 16 11 _ _ (omega arith) h
 shift-overflow-fits Sra v k st h = h
 shift-overflow-fits Srl v k st h = h
 shift-overflow-fits Src v k st h = h
@@ -78,7 +78,7 @@ pub shifted-fits : Shifted-fits
 unfolding shifted
 shifted-fits op v n st g h = (
   shift-value-fits op v (amount n) g (amount-bounds n .1),
-  put-fits 12 _ _ (omega arith) (shift-overflow-fits op v (amount n) _ (compared-fits Word _ 0 st h)),
+  put-fits 16 12 _ _ (omega arith) (shift-overflow-fits op v (amount n) _ (compared-fits Word _ 0 st h)),
 )
 
 pub product-fits : Product-fits

@@ -11,7 +11,8 @@ use Rattle.bits.specs.Bits.{bit}
 use Rattle.memory.specs.declared.Width.{Width}
 use Rattle.memory.specs.declared.Width.the-variants.{Byte, Word}
 use Rattle.memory.specs.Memory.{modulus}
-use Rattle.alu.specs.Status.{half, raised}
+use Rattle.alu.specs.Status.{half}
+use Rattle.alu.specs.Raised.{raised}
 
 pub modulus-bounds : (w : Width) → (0 < modulus w) × (modulus w ≤ 65536)
 modulus-bounds Byte = omega arith

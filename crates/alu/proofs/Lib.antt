@@ -1,4 +1,5 @@
 pub mod Laws
+pub mod Raised
 pub mod Shifting
 pub mod Fitting
 pub mod Says

@@ -6,14 +6,17 @@ use mathlib.Core.Bool.{Bool, false, not, _&&_}
 use native.Mathlib.Omega.{arith}
 use native.Mathlib.Decide.{ℕ-discrete}
 use lib.Dec.{eqb, ltb, leb}
+use lib.Signed.{ltZ}
 use borrow.Author.Tests.{le-leb, lt-leb, lt-ltb, le-ltb, ne-eqb}
 use Rattle.bits.specs.Bits.{bit}
 use Rattle.bits.proofs.Laws.{put-read, put-others}
 use Rattle.memory.specs.declared.Width.the-variants.{Word}
-use Rattle.alu.specs.Status.{raised, compared, parity, carried}
+use Rattle.alu.specs.Status.{signed, compared, parity, carried}
+use Rattle.alu.specs.Raised.{raised}
 use Rattle.alu.specs.Sums.{sum, difference, negated, absolute, difference-overflows}
 use Rattle.alu.specs.Laws.{Compared-says, Parity-says, Sum-says, Difference-says, Negated-says, Absolute-says, Absolute-value, Decremented-carry, Decremented-twice-carry}
 use Rattle.alu.proofs.Laws.{either-side, sign-bit}
+use Rattle.alu.proofs.Raised.{raised-order, raised-difference}
 
 pub compared-says : Compared-says
 unfolding compared
@@ -54,13 +57,14 @@ one-at-least (suc v) = rw (le-leb 1 (suc v) (omega arith), ne-eqb (suc v) 0 (ome
 
 -- 0 less v lies outside the signed words only for v = -32768
 negation-overflows : (v : ℕ) → v < 65536 → difference-overflows Word 0 v ≡ eqb v 32768
-unfolding difference-overflows raised
+unfolding raised
 negation-overflows v h = choose (ℕ-discrete v 32768)
   where
     choose : Dec (v ≡ 32768) → difference-overflows Word 0 v ≡ eqb v 32768
-    choose (yes e) = rw e
+    choose (yes e) = rw e (raised-difference Word 0 32768)
     choose (no n) =
-        simp (le-ltb 65536 ((v + 32768) % 65536) (omega arith), lt-leb ((v + 32768) % 65536 + 32768) 32768 (omega arith), ne-eqb v 32768 n)
+        raised-difference Word 0 v
+        ∙ simp (le-ltb 65536 ((v + 32768) % 65536) (omega arith), lt-leb ((v + 32768) % 65536 + 32768) 32768 (omega arith), ne-eqb v 32768 n)
 
 pub negated-says : Negated-says
 unfolding negated
@@ -70,10 +74,11 @@ negated-says v st h = (
 )
 
 -- above 0 as a signed number
-positive : (v : ℕ) → v < 65536 → ltb (raised Word 0) (raised Word v) ≡ ltb 0 v && ltb v 32768
+positive : (v : ℕ) → v < 65536 → ltZ (signed Word 0) (signed Word v) ≡ ltb 0 v && ltb v 32768
 unfolding raised
 positive v h =
-    either-side 0 v
+    raised-order Word 0 v
+    ∙ either-side 0 v
     (λ some. either-side v 32768
     (λ l. simp (lt-ltb 32768 ((v + 32768) % 65536) (omega arith), lt-ltb 0 v some, lt-ltb v 32768 l))
     (λ g. simp (le-ltb 32768 ((v + 32768) % 65536) (omega arith), lt-ltb 0 v some, le-ltb v 32768 g)))

@@ -9,10 +9,12 @@ use borrow.Author.Tests.{le-leb, lt-leb, lt-ltb, le-ltb}
 use Rattle.memory.specs.declared.Width.{Width}
 use Rattle.memory.specs.declared.Width.the-variants.{Byte, Word}
 use Rattle.memory.specs.Memory.{modulus}
-use Rattle.alu.specs.Status.{half, raised}
+use Rattle.alu.specs.Status.{half}
+use Rattle.alu.specs.Raised.{raised}
 use Rattle.alu.specs.Sums.{sum-overflows, difference-overflows}
 use Rattle.alu.specs.Laws.{differ, Sum-overflow-signs, Difference-overflow-signs, Sign-changes-at-once}
 use Rattle.alu.proofs.Laws.{either-side}
+use Rattle.alu.proofs.Raised.{raised-sum, raised-difference}
 use Rattle.alu.proofs.Shifting.{changes-is}
 
 -- the arithmetic of a width, in one place
@@ -59,16 +61,16 @@ module _ (h m a b x y r : ℕ) (twice : m ≡ h + h) (fits-a : a < m) (fits-b : 
       simp (le-leb h a ga, lt-leb h b lb, le-ltb (x + y) h (omega arith), lt-leb (m + h) (x + y) (omega arith))
 
 pub sum-overflow-signs : Sum-overflow-signs
-unfolding sum-overflows
 sum-overflow-signs w a b ha hb =
     let k : Halves w = halves w in
-    either-side a (half w)
+    rw (raised-sum w a b)
+    (either-side a (half w)
     (λ la. either-side b (half w)
     (λ lb. sum-low-low _ _ a b _ _ _ (k .twice) ha hb la lb (k .raised-low a la) (k .raised-low b lb) (k .sum-low (a + b) (omega (arith, k .twice))))
     (λ gb. sum-low-high _ _ a b _ _ _ (k .twice) ha hb la gb (k .raised-low a la) (k .raised-high b gb hb)))
     (λ ga. either-side b (half w)
     (λ lb. sum-high-low _ _ a b _ _ _ (k .twice) ha hb ga lb (k .raised-high a ga ha) (k .raised-low b lb))
-    (λ gb. sum-high-high _ _ a b _ _ _ (k .twice) ha hb ga gb (k .raised-high a ga ha) (k .raised-high b gb hb) (k .sum-high (a + b) (omega (arith, k .twice)) (omega arith))))
+    (λ gb. sum-high-high _ _ a b _ _ _ (k .twice) ha hb ga gb (k .raised-high a ga ha) (k .raised-high b gb hb) (k .sum-high (a + b) (omega (arith, k .twice)) (omega arith)))))
 
 -- the difference of d and s, raised to x and y, is r
 abbrev Signs-of-difference : (h d s x y r : ℕ) → Type 0
@@ -99,16 +101,16 @@ module _ (h m d s x y r : ℕ) (twice : m ≡ h + h) (fits-d : d < m) (fits-s : 
       (λ g. simp (le-leb h r g, le-ltb (x + h) y (omega arith))))
 
 pub difference-overflow-signs : Difference-overflow-signs
-unfolding difference-overflows
 difference-overflow-signs w d s hd hs =
     let k : Halves w = halves w in
-    either-side d (half w)
+    rw (raised-difference w d s)
+    (either-side d (half w)
     (λ ld. either-side s (half w)
     (λ ls. less-low-low _ _ d s _ _ _ (k .twice) hd hs ld ls (k .raised-low d ld) (k .raised-low s ls))
     (λ gs. less-low-high _ _ d s _ _ _ (k .twice) hd hs ld gs (k .raised-low d ld) (k .raised-high s gs hs) (k .less-high d s (omega arith) hs)))
     (λ gd. either-side s (half w)
     (λ ls. less-high-low _ _ d s _ _ _ (k .twice) hd hs gd ls (k .raised-high d gd hd) (k .raised-low s ls) (k .less-low d s hd (omega arith)))
-    (λ gs. less-high-high _ _ d s _ _ _ (k .twice) hd hs gd gs (k .raised-high d gd hd) (k .raised-high s gs hs)))
+    (λ gs. less-high-high _ _ d s _ _ _ (k .twice) hd hs gd gs (k .raised-high d gd hd) (k .raised-high s gs hs))))
 
 pub sign-changes-at-once : Sign-changes-at-once
 sign-changes-at-once = changes-is

@@ -4,6 +4,7 @@ use Prim.Native.Nat.{ℕ, _+_, _-_, _*_, _%_, _^_, _<_, _≤_}
 use mathlib.Core.Path.{_≡_}
 use mathlib.Core.Bool.{Bool, true, false, not, _&&_}
 use lib.Dec.{eqb, ltb, leb}
+use lib.Signed.{ltZ}
 use Rattle.bits.specs.Bits.{if_then_else_, bit}
 use Rattle.memory.specs.declared.Width.{Width}
 use Rattle.memory.specs.declared.Width.the-variants.{Byte, Word}
@@ -11,7 +12,7 @@ use Rattle.memory.specs.Memory.{modulus}
 use Rattle.isa.specs.declared.ShiftOp.{ShiftOp}
 use Rattle.alu.specs.declared.Outcome.{Outcome}
 use Rattle.alu.specs.declared.Pair.{Pair}
-use Rattle.alu.specs.Status.{logical-greater, arithmetic-greater, equal, carry, overflow, odd-parity, half, raised, is-odd, compared, parity, judged, carried}
+use Rattle.alu.specs.Status.{logical-greater, arithmetic-greater, equal, carry, overflow, odd-parity, half, signed, is-odd, compared, parity, judged, carried}
 use Rattle.alu.specs.Sums.{sum, difference, negated, absolute, sum-overflows, difference-overflows}
 use Rattle.alu.specs.Shifts.{shifted, sign-changes}
 use Rattle.alu.specs.Products.{product, divided}
@@ -64,7 +65,7 @@ abbrev pub Compared-says : Type 0
 Compared-says =
     (w : Width) (a b st : ℕ)
     → (bit logical-greater (compared w a b st) ≡ ltb b a)
-    × (bit arithmetic-greater (compared w a b st) ≡ ltb (raised w b) (raised w a))
+    × (bit arithmetic-greater (compared w a b st) ≡ ltZ (signed w b) (signed w a))
     × (bit equal (compared w a b st) ≡ eqb a b)
 
 -- OP is set on odd parity.

@@ -3,7 +3,9 @@ use Prim.Native.Nat.{ℕ, _+_, _/_, _%_}
 use mathlib.Core.Bool.{Bool, true, not, _&&_, _||_}
 use lib.Dec.{eqb, ltb}
 use lib.Count.{ones}
-use Rattle.bits.specs.Bits.{bit, put}
+use lib.IntN.{ℤ, pos, subℕ}
+use lib.Signed.{ltZ}
+use Rattle.bits.specs.Bits.{if_then_else_, bit, put}
 use Rattle.memory.specs.declared.Width.{Width}
 use Rattle.memory.specs.declared.Width.the-variants.{Byte, Word}
 use Rattle.memory.specs.Memory.{modulus}
@@ -36,14 +38,14 @@ extended = 9
 abbrev pub half : Width → ℕ
 half w = modulus w / 2
 
--- a signed number plus half the width's values, so that it is not negative and the order stays
-unfoldable pub raised : Width → ℕ → ℕ
-raised w a = (a + half w) % modulus w
+-- the signed number that an operand of a width is, in two's complement
+unfoldable pub signed : Width → ℕ → ℤ
+signed w a = if ltb (a % modulus w) (half w) then pos (a % modulus w) else subℕ (a % modulus w) (modulus w)
 
--- L>, A>, EQ compare a with b.
+-- L>, A>, EQ compare a with b: L> as unsigned numbers, A> as signed ones.
 unfoldable pub compared : Width → ℕ → ℕ → ℕ → ℕ
 compared w a b st =
-    put logical-greater (ltb b a) (put arithmetic-greater (ltb (raised w b) (raised w a)) (put equal (eqb a b) st))
+    put logical-greater (ltb b a) (put arithmetic-greater (ltZ (signed w b) (signed w a)) (put equal (eqb a b) st))
 
 -- a number of odd parity has an odd number of ones
 unfoldable pub is-odd : ℕ → Bool

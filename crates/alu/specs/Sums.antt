@@ -1,23 +1,26 @@
 -- Sums and differences over a width; carry and overflow are facts about whole numbers.
 use Prim.Native.Nat.{ℕ, _+_, _-_, _%_}
 use mathlib.Core.Bool.{Bool, false, _||_}
-use lib.Dec.{eqb, ltb, leb}
+use lib.Dec.{eqb, leb}
+use lib.IntN.{ℤ, pos, negℤ, _+ℤ_, _-ℤ_}
+use lib.Signed.{ltZ, leZ}
 use Rattle.bits.specs.Bits.{if_then_else_, bit}
 use Rattle.memory.specs.declared.Width.{Width}
 use Rattle.memory.specs.declared.Width.the-variants.{Word}
 use Rattle.memory.specs.Memory.{modulus}
 use Rattle.alu.specs.declared.Outcome.{Outcome}
-use Rattle.alu.specs.Status.{half, raised, compared, judged, carried}
+use Rattle.alu.specs.Status.{half, signed, compared, judged, carried}
 
--- The signed sum lies outside the width: each raised number has half the values too much, so the sum has all of them.
+-- whether a whole number is none of a width's signed numbers, which go from -half to half - 1
+unfoldable pub outside : Width → ℤ → Bool
+outside w z = ltZ z (negℤ (pos (half w))) || leZ (pos (half w)) z
+
+-- OV of a sum and of a difference: the sum or the difference of the signed numbers lies outside the width.
 unfoldable pub sum-overflows : Width → ℕ → ℕ → Bool
-sum-overflows w a b =
-    ltb (raised w a + raised w b) (half w) || leb (modulus w + half w) (raised w a + raised w b)
+sum-overflows w a b = outside w (signed w a +ℤ signed w b)
 
--- The signed difference d - s lies outside the width.
 unfoldable pub difference-overflows : Width → ℕ → ℕ → Bool
-difference-overflows w d s =
-    ltb (raised w d + half w) (raised w s) || leb (raised w s + half w) (raised w d)
+difference-overflows w d s = outside w (signed w d -ℤ signed w s)
 
 -- a + b: C is the carry out of the width.
 unfoldable pub sum : Width → ℕ → ℕ → ℕ → Outcome

@@ -74,7 +74,7 @@ fn shift_overflow(op: ShiftOp, v: u16, k: u32, st: u16) -> u16
     ensures { λ r. ⌜ r ≡ Shifts.shift-overflow op v k st ⌝ }
 {
     match op {
-        ShiftOp::Sla => bits::put(st, 11, sign_changes(v, k)),
+        ShiftOp::Sla => bits::put(st, status::OVERFLOW, sign_changes(v, k)),
         ShiftOp::Sra => st,
         ShiftOp::Srl => st,
         ShiftOp::Src => st,
@@ -91,6 +91,6 @@ pub fn shifted(op: ShiftOp, v: u16, n: u16, st: u16) -> Outcome
     let judged = shift_overflow(op, v, k, compared);
     Outcome {
         value,
-        st: bits::put(judged, 12, shift_carry(op, v, k)),
+        st: bits::put(judged, status::CARRY, shift_carry(op, v, k)),
     }
 }

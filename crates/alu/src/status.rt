@@ -3,6 +3,7 @@ ghost use mathlib.Core.Path.{_≡_};
 ghost use Prim.Native.Nat.{_%_};
 ghost use Rattle.memory.specs.Memory as Memory;
 ghost use Rattle.alu.specs.Status as Status;
+ghost use Rattle.alu.specs.Raised as Raised;
 use isa::JumpOp;
 use memory::Width;
 
@@ -43,7 +44,7 @@ pub fn reduced(width: Width, v: u16) -> u16
 
 // A signed number plus half the width's values: the unsigned order of these is the signed order.
 pub fn raised(width: Width, a: u16) -> u32
-    ensures { λ r. ⌜ r ≡ Status.raised width a ⌝ }
+    ensures { λ r. ⌜ r ≡ Raised.raised width a ⌝ }
 {
     match width {
         Width::Byte => ((a as u32) + 128) % 256,
@@ -55,9 +56,13 @@ pub fn raised(width: Width, a: u16) -> u32
 pub fn compared(width: Width, a: u16, b: u16, st: u16) -> u16
     ensures { λ r. ⌜ r ≡ Status.compared width a b st ⌝ }
 {
-    let with_equal = bits::put(st, 13, a == b);
-    let with_signed = bits::put(with_equal, 14, raised(width, b) < raised(width, a));
-    bits::put(with_signed, 15, b < a)
+    let with_equal = bits::put(st, EQUAL, a == b);
+    let with_signed = bits::put(
+        with_equal,
+        ARITHMETIC_GREATER,
+        raised(width, b) < raised(width, a),
+    );
+    bits::put(with_signed, LOGICAL_GREATER, b < a)
 }
 
 // Byte forms set OP on odd parity; word forms leave it.
@@ -65,7 +70,7 @@ pub fn parity(width: Width, v: u16, st: u16) -> u16
     ensures { λ r. ⌜ r ≡ Status.parity width v st ⌝ }
 {
     match width {
-        Width::Byte => bits::put(st, 10, u16::count_ones(v) % 2 == 1),
+        Width::Byte => bits::put(st, ODD_PARITY, u16::count_ones(v) % 2 == 1),
         Width::Word => st,
     }
 }
@@ -81,7 +86,7 @@ pub fn judged(width: Width, v: u16, st: u16) -> u16
 pub fn carried(c: bool, o: bool, st: u16) -> u16
     ensures { λ r. ⌜ r ≡ Status.carried c o st ⌝ }
 {
-    bits::put(bits::put(st, 11, o), 12, c)
+    bits::put(bits::put(st, OVERFLOW, o), CARRY, c)
 }
 
 // Whether a jump's condition holds.
@@ -91,17 +96,17 @@ pub fn jumps(op: JumpOp, st: u16) -> bool
     let w = st as u32;
     match op {
         JumpOp::Jmp => true,
-        JumpOp::Jlt => !bits::bit(w, 14) & !bits::bit(w, 13),
-        JumpOp::Jle => !bits::bit(w, 15) | bits::bit(w, 13),
-        JumpOp::Jeq => bits::bit(w, 13),
-        JumpOp::Jhe => bits::bit(w, 15) | bits::bit(w, 13),
-        JumpOp::Jgt => bits::bit(w, 14),
-        JumpOp::Jne => !bits::bit(w, 13),
-        JumpOp::Jnc => !bits::bit(w, 12),
-        JumpOp::Joc => bits::bit(w, 12),
-        JumpOp::Jno => !bits::bit(w, 11),
-        JumpOp::Jl => !bits::bit(w, 15) & !bits::bit(w, 13),
-        JumpOp::Jh => bits::bit(w, 15) & !bits::bit(w, 13),
-        JumpOp::Jop => bits::bit(w, 10),
+        JumpOp::Jlt => !bits::bit(w, ARITHMETIC_GREATER) & !bits::bit(w, EQUAL),
+        JumpOp::Jle => !bits::bit(w, LOGICAL_GREATER) | bits::bit(w, EQUAL),
+        JumpOp::Jeq => bits::bit(w, EQUAL),
+        JumpOp::Jhe => bits::bit(w, LOGICAL_GREATER) | bits::bit(w, EQUAL),
+        JumpOp::Jgt => bits::bit(w, ARITHMETIC_GREATER),
+        JumpOp::Jne => !bits::bit(w, EQUAL),
+        JumpOp::Jnc => !bits::bit(w, CARRY),
+        JumpOp::Joc => bits::bit(w, CARRY),
+        JumpOp::Jno => !bits::bit(w, OVERFLOW),
+        JumpOp::Jl => !bits::bit(w, LOGICAL_GREATER) & !bits::bit(w, EQUAL),
+        JumpOp::Jh => bits::bit(w, LOGICAL_GREATER) & !bits::bit(w, EQUAL),
+        JumpOp::Jop => bits::bit(w, ODD_PARITY),
     }
 }

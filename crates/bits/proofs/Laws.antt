@@ -1,15 +1,16 @@
--- A 16-bit word with one bit replaced is a 16-bit word: above the bit there are 16 - n digits, and making the lowest of
--- them 0 or 1 leaves them that many. The bit put reads back and every other bit is kept: a bit above sees only the digits
--- above, and a bit below does not see what is added from n on.
-use Prim.Native.Nat.{ℕ, suc, _+_, _-_, _*_, _/_, _%_, _^_, _<_, _≤_}
+-- A bit put at 0 is the lowest digit; further up the lowest digit stays and the bit is put one place lower into the half, so
+-- a number of j digits stays one. The bit put reads back and every other bit is kept: a bit above sees only the digits above,
+-- and a bit below does not see what is added from n on.
+use Prim.Native.Nat.{ℕ, zero, suc, _+_, _-_, _*_, _/_, _%_, _^_, _<_, _≤_}
 use mathlib.Core.Path.{_≡_, refl, sym, ap, subst, _∙_}
 use mathlib.Core.Bool.{Bool, true, false}
 use native.Mathlib.Omega.{arith}
-use native.Mathlib.Nat.{div-lt-iff-lt-mul, mod-eq-of-lt, mod-lt, mod-eq-sub-div-mul, div-mul-le-self, div-add-mod', add-mul-div-right, pow-suc}
+use native.Mathlib.Nat.{div-one, mod-one, mod-eq-of-lt, mod-lt, mod-eq-sub-div-mul, div-mul-le-self, div-add-mod', add-mul-div-right, pow-suc}
+use native.Mathlib.Numerals.{one-add, add-one}
 use native.Mathlib.Decide.{decLt}
-use lib.Pow.{pow-pos, pow-add, shr-shr}
+use lib.Pow.{pow-pos, pow-add, shr-shr, mod-pow-add}
 use lib.Dec.{eqb}
-use lib.Arith.{digits-lt, digits-div}
+use lib.Arith.{digits-div}
 use mir.Val.{boolByte}
 use Rattle.bits.specs.Bits.{one-if, bit, put}
 use Rattle.bits.specs.Laws.{Put-read, Put-others, Put-fits}
@@ -22,34 +23,40 @@ pub one-if-below : (b : Bool) → one-if b < 2
 one-if-below true = omega arith
 one-if-below false = omega arith
 
-module _ (w n x : ℕ) (fits : w < 2 ^ 16) (small : n < 16) (binary : x < 2) where
-  width-split : 2 ^ 16 ≡ 2 ^ (15 - n) * 2 * 2 ^ n
-  width-split =
-      ap (λ (k : ℕ). 2 ^ k) (let e : 16 ≡ (15 - n) + 1 + n = omega arith in e)
-      ∙ pow-add 2 ((15 - n) + 1) n
-      ∙ ap (λ (k : ℕ). k * 2 ^ n) (pow-add 2 (15 - n) 1)
+-- at 0 the bit is the lowest digit
+pub put-lowest : (x : Bool) (w : ℕ) → put 0 x w ≡ w / 2 * 2 + one-if x
+unfolding put
+put-lowest x w = rw (div-one, mod-one) (omega arith)
 
-  high-below : w / 2 ^ n < 2 ^ (15 - n) * 2
-  high-below = div-lt-iff-lt-mul (pow-pos n) .1 (subst (λ (k : ℕ). w < k) width-split fits)
+-- further up the lowest digit stays, and the bit is put one place lower into the half
+pub put-above : (k : ℕ) (x : Bool) (w : ℕ) → put (suc k) x w ≡ put k x (w / 2) * 2 + w % 2
+unfolding put
+put-above k x w =
+    let high : w / 2 ^ suc k ≡ w / 2 / 2 ^ k = ap (λ (n : ℕ). w / 2 ^ n) (sym (one-add k)) ∙ sym (shr-shr w 1 k) in
+    let low : w % 2 ^ suc k ≡ (w / 2 % 2 ^ k) * 2 + w % 2 = ap (λ (n : ℕ). w % 2 ^ n) (sym (add-one k)) ∙ mod-pow-add w k 1 in
+    let double : 2 ^ suc k ≡ 2 ^ k * 2 = omega arith in
+    rw (high, low, double) (omega arith)
 
-  made-below : w / 2 ^ n / 2 * 2 + x < 2 ^ (15 - n) * 2
-  made-below = omega (arith, high-below)
+pub put-fits : Put-fits
+put-fits zero k x w h f = absurd (omega arith)
+put-fits (suc j) zero x w h f = omega (arith, put-lowest x w, one-if-below x)
+put-fits (suc j) (suc k) x w h f = omega (arith, put-above k x w, put-fits j k x (w / 2) (omega arith) (omega arith))
 
-  pub put-below : (w / 2 ^ n / 2 * 2 + x) * 2 ^ n + w % 2 ^ n < 2 ^ 16
-  put-below = rw width-split (digits-lt made-below (mod-lt w (pow-pos n)))
-
+-- no shift of the code loses a bit
+module _ (w n : ℕ) (b : Bool) (fits : w < 2 ^ 16) (small : n < 16) where
   high-kept : w / 2 ^ n * 2 ^ n % 2 ^ 32 ≡ w / 2 ^ n * 2 ^ n
   high-kept = mod-eq-of-lt (omega (arith, div-mul-le-self w (2 ^ n)))
 
-  made-kept : (w / 2 ^ n / 2 * 2 + x) * 2 ^ n % 2 ^ 32 ≡ (w / 2 ^ n / 2 * 2 + x) * 2 ^ n
-  made-kept = mod-eq-of-lt (omega (arith, put-below))
+  made-kept : (w / 2 ^ n / 2 * 2 + one-if b) * 2 ^ n % 2 ^ 32 ≡ (w / 2 ^ n / 2 * 2 + one-if b) * 2 ^ n
+  unfolding put
+  made-kept = mod-eq-of-lt (omega (arith, put-fits 16 n b w small fits))
 
-  -- no shift of the code loses a bit
   pub shifted-back : w / 2 ^ n * 2 ^ n % 2 ^ 32 ≤ w
   shifted-back = rw high-kept (div-mul-le-self w (2 ^ n))
 
   pub shifts-exact :
-      (w / 2 ^ n / 2 * 2 + x) * 2 ^ n % 2 ^ 32 + (w - w / 2 ^ n * 2 ^ n % 2 ^ 32) ≡ (w / 2 ^ n / 2 * 2 + x) * 2 ^ n + w % 2 ^ n
+      (w / 2 ^ n / 2 * 2 + one-if b) * 2 ^ n % 2 ^ 32 + (w - w / 2 ^ n * 2 ^ n % 2 ^ 32) ≡ put n b w
+  unfolding put
   shifts-exact = rw (made-kept, high-kept, ← mod-eq-sub-div-mul w (2 ^ n))
 
 truth : (b : Bool) → eqb (one-if b) 1 ≡ b
@@ -104,7 +111,3 @@ put-others m n b w other = choose (decLt m n)
         subst (λ (x : ℕ). bit m (put x b w) ≡ bit m w) (let e : suc (n - suc m) + m ≡ n = omega arith in e) (below m (n - suc m) b w)
     choose (no h) =
         subst (λ (x : ℕ). bit x (put n b w) ≡ bit x w) (let e : n + (1 + (m - suc n)) ≡ m = omega arith in e) (above n (m - suc n) b w)
-
-pub put-fits : Put-fits
-unfolding put
-put-fits n b w small fits = put-below w n (one-if b) fits small (one-if-below b)

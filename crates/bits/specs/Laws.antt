@@ -12,6 +12,6 @@ Put-read = (n : ℕ) (b : Bool) (w : ℕ) → bit n (put n b w) ≡ b
 abbrev pub Put-others : Type 0
 Put-others = (m n : ℕ) (b : Bool) (w : ℕ) → (m ≡ n → ⊥) → bit m (put n b w) ≡ bit m w
 
--- a 16-bit word stays one
+-- a number of j bits stays one
 abbrev pub Put-fits : Type 0
-Put-fits = (n : ℕ) (b : Bool) (w : ℕ) → n < 16 → w < 2 ^ 16 → put n b w < 2 ^ 16
+Put-fits = (j n : ℕ) (b : Bool) (w : ℕ) → n < j → w < 2 ^ j → put n b w < 2 ^ j

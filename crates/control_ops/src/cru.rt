@@ -3,7 +3,6 @@ ghost use mathlib.Core.Path.{_≡_};
 ghost use Prim.Native.Nat.{ℕ, _≤_};
 ghost use mathlib.Core.List.{List};
 ghost use Rattle.memory.specs.Memory.{Installed};
-ghost use Rattle.psi.specs.Cru as Cru;
 ghost use Rattle.machine.specs.State.{at};
 ghost use Rattle.machine.specs.Groups as Groups;
 ghost use Rattle.machine.specs.Perform.{perform, performed};
@@ -132,18 +131,6 @@ pub fn transfer(
     }
 }
 
-// The bit that lies a signed displacement from another.
-fn displaced(bit: CruBit, displacement: u16) -> CruBit
-    ensures { λ r. ⌜ r ≡ Cru.beyond bit (Cru.displacement displacement) ⌝ }
-{
-    let ahead = bit.plus(displacement);
-    if displacement < 128 {
-        ahead
-    } else {
-        ahead.plus(2048 - 256)
-    }
-}
-
 // What SBO, SBZ and TB do with their bit.
 fn reach(state: State, levels: u32, op: BitOp, bit: CruBit) -> State
     ensures { λ r. ⌜ ((m : List ℕ) → perform levels (Groups.reach op bit) (at state m) ≡ performed tt (at r m)) ⌝ }
@@ -168,5 +155,5 @@ pub fn access_bit(bytes: &[u8], state: State, levels: u32, op: BitOp, displaceme
     let base = cru_base(bytes, state);
     let based = base.state;
     let bit = base.bit;
-    reach(based, levels, op, displaced(bit, displacement))
+    reach(based, levels, op, bit.displaced(displacement))
 }

@@ -10,7 +10,7 @@ use borrow.Author.Tests.{leb-true, leb-false, le-leb, lt-leb, lt-ltb, le-ltb, ne
 use Rattle.bits.specs.Bits.{if_then_else_}
 use Rattle.isa.specs.declared.Instruction.{Instruction}
 use Rattle.isa.specs.declared.Instruction.the-variants.{Dual, Register, Xop, Transfer, Bit, Jump, Shift, Single, Blwp, X, Immediate, Stwp, Stst, Lwpi, Limi, Control, Unassigned}
-use Rattle.isa.specs.Isa.{source, destination, dual, with-register, with-displacement, shift, single, immediate, decoded, further-words}
+use Rattle.isa.specs.Isa.{opcode, source, destination, dual, with-register, with-displacement, shift, single, immediate, decoded, further-words}
 use Rattle.isa.specs.Words.{General, Fields, Fields-in-range, Two-further-words, is-unassigned, within, in-gaps, Unassigned-exactly}
 use Rattle.isa.proofs.Laws.{operand-words-at-most}
 
@@ -28,26 +28,26 @@ general w = omega arith
 with-register-fields : (w : ℕ) → Fields (with-register w)
 unfolding with-register
 with-register-fields w =
-    both Fields (eqb (w / 1024) 11) (general w, omega arith)
-    (both Fields (eqb (w / 1024) 12) (general w, omega arith)
-    (both Fields (eqb (w / 1024) 13) (general w, omega arith) (general w, omega arith)))
+    both Fields (eqb (opcode 0x400 w) 0x2C00) (general w, omega arith)
+    (both Fields (eqb (opcode 0x400 w) 0x3000) (general w, omega arith)
+    (both Fields (eqb (opcode 0x400 w) 0x3400) (general w, omega arith) (general w, omega arith)))
 
 single-fields : (w : ℕ) → Fields (single w)
 unfolding single
 single-fields w =
     both Fields (ltb w 0x0780)
-    (both Fields (eqb (w / 64) 16) (general w) (both Fields (eqb (w / 64) 18) (general w) (general w)))
+    (both Fields (eqb (opcode 0x40 w) 0x0400) (general w) (both Fields (eqb (opcode 0x40 w) 0x0480) (general w) (general w)))
     tt
 
 immediate-fields : (w : ℕ) → Fields (immediate w)
 unfolding immediate
 immediate-fields w =
     both Fields (ltb w 0x02A0) (omega arith)
-    (both Fields (eqb (w / 32) 21) (omega arith)
-    (both Fields (eqb (w / 32) 22) (omega arith)
-    (both Fields (eqb (w / 32) 23) tt
-    (both Fields (eqb (w / 32) 24) tt
-    (both Fields (eqb (w / 32) 25) tt tt)))))
+    (both Fields (eqb (opcode 0x20 w) 0x02A0) (omega arith)
+    (both Fields (eqb (opcode 0x20 w) 0x02C0) (omega arith)
+    (both Fields (eqb (opcode 0x20 w) 0x02E0) tt
+    (both Fields (eqb (opcode 0x20 w) 0x0300) tt
+    (both Fields (eqb (opcode 0x20 w) 0x0320) tt tt)))))
 
 pub fields-in-range : Fields-in-range
 unfolding decoded dual with-displacement shift destination
@@ -112,7 +112,7 @@ high w h =
     rw (above 0 0x01FF w (omega arith), above 0x0320 0x033F w (omega arith), above 0x0780 0x07FF w (omega arith), above 0x0C00 0x0FFF w h)
     (both Assigned (leb 0x4000 w) refl
     (both Assigned (leb 0x2000 w)
-    (both Assigned (eqb (w / 1024) 11) refl (both Assigned (eqb (w / 1024) 12) refl (both Assigned (eqb (w / 1024) 13) refl refl)))
+    (both Assigned (eqb (opcode 0x400 w) 0x2C00) refl (both Assigned (eqb (opcode 0x400 w) 0x3000) refl (both Assigned (eqb (opcode 0x400 w) 0x3400) refl refl)))
     (rw (le-leb 0x1000 w h) (both Assigned (ltb w 0x1D00) refl refl))))
 
 -- 0800 to 0FFF: the words from 0C00 on are not
@@ -134,9 +134,9 @@ singles w h l =
     (by-order 0x0780 w
     (λ g. rw (le-ltb w 0x0780 g, inside 0x0780 0x07FF w g (omega arith)))
     (λ g. rw (lt-ltb w 0x0780 g, below 0x0780 0x07FF w g)
-    (both Assigned (eqb (w / 64) 16) refl (both Assigned (eqb (w / 64) 18) refl refl)))))
+    (both Assigned (eqb (opcode 0x40 w) 0x0400) refl (both Assigned (eqb (opcode 0x40 w) 0x0480) refl refl)))))
 
--- 0200 to 03FF: those with the code 25 are not
+-- 0200 to 03FF: those with the code 0320 are not
 immediates : (w : ℕ) → 0x0200 ≤ w → w < 0x0400 → is-unassigned (decoded w) ≡ in-gaps w
 unfolding Assigned is-unassigned decoded immediate in-gaps
 immediates w h l =
@@ -145,17 +145,17 @@ immediates w h l =
     (by-order 0x0340 w
     (λ g. rw (above 0x0320 0x033F w g) (assigned (omega arith)))
     (λ g. by-order 0x0320 w
-    (λ k. rw (inside 0x0320 0x033F w k (omega arith), le-ltb w 0x02A0 (omega arith), let e : w / 32 ≡ 25 = omega arith in e))
+    (λ k. rw (inside 0x0320 0x033F w k (omega arith), le-ltb w 0x02A0 (omega arith), let e : opcode 0x20 w ≡ 0x0320 = omega arith in e))
     (λ k. rw (below 0x0320 0x033F w k) (assigned (omega arith))))))
   where
-    assigned : w / 32 ≢ 25 → Assigned (immediate w)
+    assigned : opcode 0x20 w ≢ 0x0320 → Assigned (immediate w)
     assigned n =
         both Assigned (ltb w 0x02A0) refl
-        (both Assigned (eqb (w / 32) 21) refl
-        (both Assigned (eqb (w / 32) 22) refl
-        (both Assigned (eqb (w / 32) 23) refl
-        (both Assigned (eqb (w / 32) 24) refl
-        (rw (ne-eqb (w / 32) 25 n))))))
+        (both Assigned (eqb (opcode 0x20 w) 0x02A0) refl
+        (both Assigned (eqb (opcode 0x20 w) 0x02C0) refl
+        (both Assigned (eqb (opcode 0x20 w) 0x02E0) refl
+        (both Assigned (eqb (opcode 0x20 w) 0x0300) refl
+        (rw (ne-eqb (opcode 0x20 w) 0x0320 n))))))
 
 pub unassigned-exactly : Unassigned-exactly
 unfolding decoded is-unassigned in-gaps

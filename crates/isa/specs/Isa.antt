@@ -1,5 +1,5 @@
 -- What each of the 65536 words is, and how many further words it takes.
-use Prim.Native.Nat.{ℕ, _+_, _/_, _%_}
+use Prim.Native.Nat.{ℕ, _+_, _*_, _/_, _%_}
 use lib.Dec.{eqb, leb, ltb}
 use Rattle.bits.specs.Bits.{if_then_else_}
 use Rattle.memory.specs.declared.Width.{Width}
@@ -33,131 +33,135 @@ source w = record { mode = w / 16 % 4; register = w % 16 }
 unfoldable pub destination : ℕ → Operand
 destination w = source (w / 64)
 
--- 4000 to FFFF: the weights from 8192 on are the operation's code, the weight 4096 tells bytes from words
+-- An instruction's code, as the manual prints it: its word less the bits below a weight.
+abbrev pub opcode : ℕ → ℕ → ℕ
+opcode weight w = w / weight * weight
+
+-- 4000 to FFFF: the code is above the operands and the weight 1000h, which tells bytes from words
 unfoldable pub dual-operation : ℕ → DualOp
 dual-operation code =
-    if eqb code 2 then Szc
-    else if eqb code 3 then S
-    else if eqb code 4 then C
-    else if eqb code 5 then A
-    else if eqb code 6 then Mov
+    if eqb code 0x4000 then Szc
+    else if eqb code 0x6000 then S
+    else if eqb code 0x8000 then C
+    else if eqb code 0xA000 then A
+    else if eqb code 0xC000 then Mov
     else Soc
 
 unfoldable pub dual-width : ℕ → Width
-dual-width w = if eqb (w / 4096 % 2) 1 then Byte else Word
+dual-width w = if eqb (w / 0x1000 % 2) 1 then Byte else Word
 
 unfoldable pub dual : ℕ → Instruction
-dual w = Dual (dual-operation (w / 8192)) (source w) (destination w) (dual-width w)
+dual w = Dual (dual-operation (opcode 0x2000 w)) (source w) (destination w) (dual-width w)
 
--- 2000 to 3FFF: the weights from 1024 on are the code, the four below it a register, XOP's number or a count of bits
+-- 2000 to 3FFF: the code is above the operand and a register, XOP's number or a count of bits
 unfoldable pub register-operation : ℕ → RegisterOp
 register-operation code =
-    if eqb code 8 then Coc
-    else if eqb code 9 then Czc
-    else if eqb code 10 then Xor
-    else if eqb code 14 then Mpy
+    if eqb code 0x2000 then Coc
+    else if eqb code 0x2400 then Czc
+    else if eqb code 0x2800 then Xor
+    else if eqb code 0x3800 then Mpy
     else Div
 
 unfoldable pub with-register : ℕ → Instruction
 with-register w =
-    if eqb (w / 1024) 11 then Xop (source w) (w / 64 % 16)
-    else if eqb (w / 1024) 12 then Transfer Ldcr (source w) (w / 64 % 16)
-    else if eqb (w / 1024) 13 then Transfer Stcr (source w) (w / 64 % 16)
-    else Register (register-operation (w / 1024)) (source w) (w / 64 % 16)
+    if eqb (opcode 0x400 w) 0x2C00 then Xop (source w) (w / 64 % 16)
+    else if eqb (opcode 0x400 w) 0x3000 then Transfer Ldcr (source w) (w / 64 % 16)
+    else if eqb (opcode 0x400 w) 0x3400 then Transfer Stcr (source w) (w / 64 % 16)
+    else Register (register-operation (opcode 0x400 w)) (source w) (w / 64 % 16)
 
--- 1000 to 1FFF: the high byte is the code, the low byte the displacement; jumps, and from 1D00 on single CRU bits
+-- 1000 to 1FFF: the code is above the displacement; jumps, and from 1D00 on single CRU bits
 unfoldable pub jump-operation : ℕ → JumpOp
 jump-operation code =
-    if eqb code 16 then Jmp
-    else if eqb code 17 then Jlt
-    else if eqb code 18 then Jle
-    else if eqb code 19 then Jeq
-    else if eqb code 20 then Jhe
-    else if eqb code 21 then Jgt
-    else if eqb code 22 then Jne
-    else if eqb code 23 then Jnc
-    else if eqb code 24 then Joc
-    else if eqb code 25 then Jno
-    else if eqb code 26 then Jl
-    else if eqb code 27 then Jh
+    if eqb code 0x1000 then Jmp
+    else if eqb code 0x1100 then Jlt
+    else if eqb code 0x1200 then Jle
+    else if eqb code 0x1300 then Jeq
+    else if eqb code 0x1400 then Jhe
+    else if eqb code 0x1500 then Jgt
+    else if eqb code 0x1600 then Jne
+    else if eqb code 0x1700 then Jnc
+    else if eqb code 0x1800 then Joc
+    else if eqb code 0x1900 then Jno
+    else if eqb code 0x1A00 then Jl
+    else if eqb code 0x1B00 then Jh
     else Jop
 
 unfoldable pub bit-operation : ℕ → BitOp
 bit-operation code =
-    if eqb code 29 then Sbo
-    else if eqb code 30 then Sbz
+    if eqb code 0x1D00 then Sbo
+    else if eqb code 0x1E00 then Sbz
     else Tb
 
 unfoldable pub with-displacement : ℕ → Instruction
 with-displacement w =
-    if ltb w 0x1D00 then Jump (jump-operation (w / 256)) (w % 256)
-    else Bit (bit-operation (w / 256)) (w % 256)
+    if ltb w 0x1D00 then Jump (jump-operation (opcode 0x100 w)) (w % 256)
+    else Bit (bit-operation (opcode 0x100 w)) (w % 256)
 
--- 0800 to 0FFF: the high byte is the code, then the count, then the register; from 0C00 on unassigned
+-- 0800 to 0FFF: the code is above the count and the register; from 0C00 on unassigned
 unfoldable pub shift-operation : ℕ → ShiftOp
 shift-operation code =
-    if eqb code 8 then Sra
-    else if eqb code 9 then Srl
-    else if eqb code 10 then Sla
+    if eqb code 0x0800 then Sra
+    else if eqb code 0x0900 then Srl
+    else if eqb code 0x0A00 then Sla
     else Src
 
 unfoldable pub shift : ℕ → Instruction
 shift w =
-    if ltb w 0x0C00 then Shift (shift-operation (w / 256)) (w % 16) (w / 16 % 16)
+    if ltb w 0x0C00 then Shift (shift-operation (opcode 0x100 w)) (w % 16) (w / 16 % 16)
     else Unassigned
 
--- 0400 to 07FF: the weights from 64 on are the code; from 0780 on unassigned
+-- 0400 to 07FF: the code is above the operand; from 0780 on unassigned
 unfoldable pub single-operation : ℕ → SingleOp
 single-operation code =
-    if eqb code 17 then B
-    else if eqb code 19 then Clr
-    else if eqb code 20 then Neg
-    else if eqb code 21 then Inv
-    else if eqb code 22 then Inc
-    else if eqb code 23 then Inct
-    else if eqb code 24 then Dec
-    else if eqb code 25 then Dect
-    else if eqb code 26 then Bl
-    else if eqb code 27 then Swpb
-    else if eqb code 28 then Seto
+    if eqb code 0x0440 then B
+    else if eqb code 0x04C0 then Clr
+    else if eqb code 0x0500 then Neg
+    else if eqb code 0x0540 then Inv
+    else if eqb code 0x0580 then Inc
+    else if eqb code 0x05C0 then Inct
+    else if eqb code 0x0600 then Dec
+    else if eqb code 0x0640 then Dect
+    else if eqb code 0x0680 then Bl
+    else if eqb code 0x06C0 then Swpb
+    else if eqb code 0x0700 then Seto
     else Abs
 
 unfoldable pub single : ℕ → Instruction
 single w =
     if ltb w 0x0780 then
-    (if eqb (w / 64) 16 then Blwp (source w)
-    else if eqb (w / 64) 18 then X (source w)
-    else Single (single-operation (w / 64)) (source w))
+    (if eqb (opcode 0x40 w) 0x0400 then Blwp (source w)
+    else if eqb (opcode 0x40 w) 0x0480 then X (source w)
+    else Single (single-operation (opcode 0x40 w)) (source w))
     else Unassigned
 
--- 0200 to 03FF: the weights from 32 on are the code. The immediate forms, STWP and STST ignore weight 16, LWPI, LIMI and the
+-- 0200 to 03FF: the code is above the low five bits. The immediate forms, STWP and STST ignore weight 16, LWPI, LIMI and the
 -- control forms the low five bits.
 unfoldable pub immediate-operation : ℕ → ImmediateOp
 immediate-operation code =
-    if eqb code 16 then Li
-    else if eqb code 17 then Ai
-    else if eqb code 18 then Andi
-    else if eqb code 19 then Ori
+    if eqb code 0x0200 then Li
+    else if eqb code 0x0220 then Ai
+    else if eqb code 0x0240 then Andi
+    else if eqb code 0x0260 then Ori
     else Ci
 
 unfoldable pub control-operation : ℕ → ControlOp
 control-operation code =
-    if eqb code 26 then Idle
-    else if eqb code 27 then Rset
-    else if eqb code 28 then Rtwp
-    else if eqb code 29 then Ckon
-    else if eqb code 30 then Ckof
+    if eqb code 0x0340 then Idle
+    else if eqb code 0x0360 then Rset
+    else if eqb code 0x0380 then Rtwp
+    else if eqb code 0x03A0 then Ckon
+    else if eqb code 0x03C0 then Ckof
     else Lrex
 
 unfoldable pub immediate : ℕ → Instruction
 immediate w =
-    if ltb w 0x02A0 then Immediate (immediate-operation (w / 32)) (w % 16)
-    else if eqb (w / 32) 21 then Stwp (w % 16)
-    else if eqb (w / 32) 22 then Stst (w % 16)
-    else if eqb (w / 32) 23 then Lwpi
-    else if eqb (w / 32) 24 then Limi
-    else if eqb (w / 32) 25 then Unassigned
-    else Control (control-operation (w / 32))
+    if ltb w 0x02A0 then Immediate (immediate-operation (opcode 0x20 w)) (w % 16)
+    else if eqb (opcode 0x20 w) 0x02A0 then Stwp (w % 16)
+    else if eqb (opcode 0x20 w) 0x02C0 then Stst (w % 16)
+    else if eqb (opcode 0x20 w) 0x02E0 then Lwpi
+    else if eqb (opcode 0x20 w) 0x0300 then Limi
+    else if eqb (opcode 0x20 w) 0x0320 then Unassigned
+    else Control (control-operation (opcode 0x20 w))
 
 -- Unassigned: 0000 to 01FF, 0320 to 033F, 0780 to 07FF, 0C00 to 0FFF.
 unfoldable pub decoded : ℕ → Instruction

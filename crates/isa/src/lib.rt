@@ -186,11 +186,11 @@ fn dual_operation(code: u16) -> DualOp
     ensures { λ r. ⌜ r ≡ Isa.dual-operation code ⌝ }
 {
     match code {
-        2 => DualOp::Szc,
-        3 => DualOp::S,
-        4 => DualOp::C,
-        5 => DualOp::A,
-        6 => DualOp::Mov,
+        0x4000 => DualOp::Szc,
+        0x6000 => DualOp::S,
+        0x8000 => DualOp::C,
+        0xA000 => DualOp::A,
+        0xC000 => DualOp::Mov,
         _ => DualOp::Soc,
     }
 }
@@ -199,7 +199,7 @@ fn dual_operation(code: u16) -> DualOp
 fn dual_width(word: u16) -> Width
     ensures { λ r. ⌜ r ≡ Isa.dual-width word ⌝ }
 {
-    if word / 4096 % 2 == 1 {
+    if word / 0x1000 % 2 == 1 {
         Width::Byte
     } else {
         Width::Word
@@ -211,7 +211,7 @@ fn dual(word: u16) -> Instruction
     ensures { λ r. ⌜ r ≡ Isa.dual word ⌝ }
 {
     Instruction::Dual {
-        op: dual_operation(word / 8192),
+        op: dual_operation(word / 0x2000 * 0x2000),
         width: dual_width(word),
         source: source(word),
         destination: destination(word),
@@ -223,10 +223,10 @@ fn register_operation(code: u16) -> RegisterOp
     ensures { λ r. ⌜ r ≡ Isa.register-operation code ⌝ }
 {
     match code {
-        8 => RegisterOp::Coc,
-        9 => RegisterOp::Czc,
-        10 => RegisterOp::Xor,
-        14 => RegisterOp::Mpy,
+        0x2000 => RegisterOp::Coc,
+        0x2400 => RegisterOp::Czc,
+        0x2800 => RegisterOp::Xor,
+        0x3800 => RegisterOp::Mpy,
         _ => RegisterOp::Div,
     }
 }
@@ -237,18 +237,18 @@ fn with_register(word: u16) -> Instruction
 {
     let operand = source(word);
     let number = word / 64 % 16;
-    let code = word / 1024;
+    let code = word / 0x400 * 0x400;
     match code {
-        11 => Instruction::Xop {
+        0x2C00 => Instruction::Xop {
             source: operand,
             number,
         },
-        12 => Instruction::Transfer {
+        0x3000 => Instruction::Transfer {
             op: TransferOp::Ldcr,
             operand,
             count: number,
         },
-        13 => Instruction::Transfer {
+        0x3400 => Instruction::Transfer {
             op: TransferOp::Stcr,
             operand,
             count: number,
@@ -266,18 +266,18 @@ fn jump_operation(code: u16) -> JumpOp
     ensures { λ r. ⌜ r ≡ Isa.jump-operation code ⌝ }
 {
     match code {
-        16 => JumpOp::Jmp,
-        17 => JumpOp::Jlt,
-        18 => JumpOp::Jle,
-        19 => JumpOp::Jeq,
-        20 => JumpOp::Jhe,
-        21 => JumpOp::Jgt,
-        22 => JumpOp::Jne,
-        23 => JumpOp::Jnc,
-        24 => JumpOp::Joc,
-        25 => JumpOp::Jno,
-        26 => JumpOp::Jl,
-        27 => JumpOp::Jh,
+        0x1000 => JumpOp::Jmp,
+        0x1100 => JumpOp::Jlt,
+        0x1200 => JumpOp::Jle,
+        0x1300 => JumpOp::Jeq,
+        0x1400 => JumpOp::Jhe,
+        0x1500 => JumpOp::Jgt,
+        0x1600 => JumpOp::Jne,
+        0x1700 => JumpOp::Jnc,
+        0x1800 => JumpOp::Joc,
+        0x1900 => JumpOp::Jno,
+        0x1A00 => JumpOp::Jl,
+        0x1B00 => JumpOp::Jh,
         _ => JumpOp::Jop,
     }
 }
@@ -287,8 +287,8 @@ fn bit_operation(code: u16) -> BitOp
     ensures { λ r. ⌜ r ≡ Isa.bit-operation code ⌝ }
 {
     match code {
-        29 => BitOp::Sbo,
-        30 => BitOp::Sbz,
+        0x1D00 => BitOp::Sbo,
+        0x1E00 => BitOp::Sbz,
         _ => BitOp::Tb,
     }
 }
@@ -297,7 +297,7 @@ fn bit_operation(code: u16) -> BitOp
 fn with_displacement(word: u16) -> Instruction
     ensures { λ r. ⌜ r ≡ Isa.with-displacement word ⌝ }
 {
-    let code = word / 256;
+    let code = word / 0x100 * 0x100;
     let displacement = word % 256;
     if word < 0x1D00 {
         Instruction::Jump {
@@ -317,9 +317,9 @@ fn shift_operation(code: u16) -> ShiftOp
     ensures { λ r. ⌜ r ≡ Isa.shift-operation code ⌝ }
 {
     match code {
-        8 => ShiftOp::Sra,
-        9 => ShiftOp::Srl,
-        10 => ShiftOp::Sla,
+        0x0800 => ShiftOp::Sra,
+        0x0900 => ShiftOp::Srl,
+        0x0A00 => ShiftOp::Sla,
         _ => ShiftOp::Src,
     }
 }
@@ -330,7 +330,7 @@ fn shift(word: u16) -> Instruction
 {
     if word < 0x0C00 {
         Instruction::Shift {
-            op: shift_operation(word / 256),
+            op: shift_operation(word / 0x100 * 0x100),
             register: word % 16,
             count: word / 16 % 16,
         }
@@ -344,17 +344,17 @@ fn single_operation(code: u16) -> SingleOp
     ensures { λ r. ⌜ r ≡ Isa.single-operation code ⌝ }
 {
     match code {
-        17 => SingleOp::B,
-        19 => SingleOp::Clr,
-        20 => SingleOp::Neg,
-        21 => SingleOp::Inv,
-        22 => SingleOp::Inc,
-        23 => SingleOp::Inct,
-        24 => SingleOp::Dec,
-        25 => SingleOp::Dect,
-        26 => SingleOp::Bl,
-        27 => SingleOp::Swpb,
-        28 => SingleOp::Seto,
+        0x0440 => SingleOp::B,
+        0x04C0 => SingleOp::Clr,
+        0x0500 => SingleOp::Neg,
+        0x0540 => SingleOp::Inv,
+        0x0580 => SingleOp::Inc,
+        0x05C0 => SingleOp::Inct,
+        0x0600 => SingleOp::Dec,
+        0x0640 => SingleOp::Dect,
+        0x0680 => SingleOp::Bl,
+        0x06C0 => SingleOp::Swpb,
+        0x0700 => SingleOp::Seto,
         _ => SingleOp::Abs,
     }
 }
@@ -365,10 +365,10 @@ fn single(word: u16) -> Instruction
 {
     if word < 0x0780 {
         let operand = source(word);
-        let code = word / 64;
+        let code = word / 0x40 * 0x40;
         match code {
-            16 => Instruction::Blwp { operand },
-            18 => Instruction::X { operand },
+            0x0400 => Instruction::Blwp { operand },
+            0x0480 => Instruction::X { operand },
             _ => Instruction::Single {
                 op: single_operation(code),
                 operand,
@@ -384,10 +384,10 @@ fn immediate_operation(code: u16) -> ImmediateOp
     ensures { λ r. ⌜ r ≡ Isa.immediate-operation code ⌝ }
 {
     match code {
-        16 => ImmediateOp::Li,
-        17 => ImmediateOp::Ai,
-        18 => ImmediateOp::Andi,
-        19 => ImmediateOp::Ori,
+        0x0200 => ImmediateOp::Li,
+        0x0220 => ImmediateOp::Ai,
+        0x0240 => ImmediateOp::Andi,
+        0x0260 => ImmediateOp::Ori,
         _ => ImmediateOp::Ci,
     }
 }
@@ -397,11 +397,11 @@ fn control_operation(code: u16) -> ControlOp
     ensures { λ r. ⌜ r ≡ Isa.control-operation code ⌝ }
 {
     match code {
-        26 => ControlOp::Idle,
-        27 => ControlOp::Rset,
-        28 => ControlOp::Rtwp,
-        29 => ControlOp::Ckon,
-        30 => ControlOp::Ckof,
+        0x0340 => ControlOp::Idle,
+        0x0360 => ControlOp::Rset,
+        0x0380 => ControlOp::Rtwp,
+        0x03A0 => ControlOp::Ckon,
+        0x03C0 => ControlOp::Ckof,
         _ => ControlOp::Lrex,
     }
 }
@@ -410,7 +410,7 @@ fn control_operation(code: u16) -> ControlOp
 fn immediate(word: u16) -> Instruction
     ensures { λ r. ⌜ r ≡ Isa.immediate word ⌝ }
 {
-    let code = word / 32;
+    let code = word / 0x20 * 0x20;
     let register = word % 16;
     if word < 0x02A0 {
         Instruction::Immediate {
@@ -419,11 +419,11 @@ fn immediate(word: u16) -> Instruction
         }
     } else {
         match code {
-            21 => Instruction::Stwp { register },
-            22 => Instruction::Stst { register },
-            23 => Instruction::Lwpi,
-            24 => Instruction::Limi,
-            25 => Instruction::Unassigned,
+            0x02A0 => Instruction::Stwp { register },
+            0x02C0 => Instruction::Stst { register },
+            0x02E0 => Instruction::Lwpi,
+            0x0300 => Instruction::Limi,
+            0x0320 => Instruction::Unassigned,
             _ => Instruction::Control {
                 op: control_operation(code),
             },

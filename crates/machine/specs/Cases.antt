@@ -99,7 +99,7 @@ holds (coded p v c) = eqb (code p v) c
 
 -- whether every case holds; the line below opens all that a case computes with
 unfoldable pub every : List Case → Bool
-unfolding Count.ones Count.onesIn BitsBits.bit BitsBits.put BitsLogic.joined BitsLogic.both BitsLogic.either BitsLogic.exclusive BitsLogic.without BitsLogic.inverted BitsLogic.swapped MemoryMemory.place MemoryMemory.number MemoryMemory.spread MemoryMemory.loaded MemoryMemory.stored MemoryMemory.places MemoryMemory.touched MemoryMemory.covers MemoryMemory.disjoint PsiClock.counted PsiClock.pended PsiClock.followed PsiClock.tick PsiClock.ticks PsiClock.advanced PsiPins.parted PsiPins.port-weight PsiPins.port-level PsiPins.request-level PsiPins.active PsiPins.requested PsiPins.lowest PsiPins.request PsiPins.code PsiCru.first-bit PsiCru.beyond PsiCru.displacement PsiCru.timed-value PsiCru.sensed-value PsiCru.sensed PsiCru.controlled PsiCru.masked PsiCru.timed PsiCru.latched PsiCru.driven PsiFormed.well-formed IsaIsa.source IsaIsa.destination IsaIsa.dual-operation IsaIsa.dual-width IsaIsa.dual IsaIsa.register-operation IsaIsa.with-register IsaIsa.jump-operation IsaIsa.bit-operation IsaIsa.with-displacement IsaIsa.shift-operation IsaIsa.shift IsaIsa.single-operation IsaIsa.single IsaIsa.immediate-operation IsaIsa.control-operation IsaIsa.immediate IsaIsa.decoded IsaIsa.operand-words IsaIsa.further-words AluStatus.raised AluStatus.compared AluStatus.is-odd AluStatus.parity AluStatus.judged AluStatus.carried AluStatus.jumps AluSums.sum-overflows AluSums.difference-overflows AluSums.sum AluSums.difference AluSums.negated AluSums.absolute AluShifts.amount AluShifts.shift-value AluShifts.shift-carry AluShifts.sign-changes AluShifts.shift-overflow AluShifts.shifted AluProducts.product AluProducts.divided State.well-formed Micro.registers Micro.set Micro.fetched Micro.load Micro.store Micro.sensed Micro.driven Perform.perform Operands.register Operands.set-register Operands.indexed Operands.stepped Operands.operand Groups.set-status Groups.conclude Groups.conclude-judged Groups.combine Groups.dual Groups.set-equal Groups.set-pair Groups.divide Groups.apply Groups.with-register Groups.cru-base Groups.drive-bits Groups.sense-bits Groups.transfer-width Groups.load-cru Groups.store-cru Groups.transfer Groups.reach Groups.access-bit Groups.jump-bytes Groups.jump Groups.shift-count Groups.shift Groups.replace Groups.modify Groups.single Groups.merge Groups.old Groups.immediate Groups.load-mask Groups.load-workspace Groups.store-status Groups.store-workspace Groups.switch Groups.switch-by-operand Groups.switch-by-number Groups.return Groups.command Execute.instruction Execute.execute Execute.again Step.signal Step.admitted Step.enter Step.proceed Step.boundary Step.stepping Step.step Run.missed Run.runs Run.run-refusal Run.run Run.power-up-refusal Run.power-up poked same-psi same-answer same-bytes holds
+unfolding Count.ones Count.onesIn BitsBits.bit BitsBits.put BitsLogic.joined BitsLogic.both BitsLogic.either BitsLogic.exclusive BitsLogic.without BitsLogic.inverted BitsLogic.swapped MemoryMemory.place MemoryMemory.number MemoryMemory.spread MemoryMemory.loaded MemoryMemory.stored MemoryMemory.places MemoryMemory.touched MemoryMemory.covers MemoryMemory.disjoint PsiClock.counted PsiClock.pended PsiClock.followed PsiClock.tick PsiClock.ticks PsiClock.advanced PsiPins.parted PsiPins.port-weight PsiPins.port-level PsiPins.request-level PsiPins.active PsiPins.requested PsiPins.lowest PsiPins.request PsiPins.code PsiCru.first-bit PsiCru.beyond BitsBits.signed-byte PsiCru.displaced PsiCru.timed-value PsiCru.sensed-value PsiCru.sensed PsiCru.controlled PsiCru.masked PsiCru.timed PsiCru.latched PsiCru.driven PsiFormed.well-formed IsaIsa.source IsaIsa.destination IsaIsa.dual-operation IsaIsa.dual-width IsaIsa.dual IsaIsa.register-operation IsaIsa.with-register IsaIsa.jump-operation IsaIsa.bit-operation IsaIsa.with-displacement IsaIsa.shift-operation IsaIsa.shift IsaIsa.single-operation IsaIsa.single IsaIsa.immediate-operation IsaIsa.control-operation IsaIsa.immediate IsaIsa.decoded IsaIsa.operand-words IsaIsa.further-words AluStatus.signed AluSums.outside AluStatus.compared AluStatus.is-odd AluStatus.parity AluStatus.judged AluStatus.carried AluStatus.jumps AluSums.sum-overflows AluSums.difference-overflows AluSums.sum AluSums.difference AluSums.negated AluSums.absolute AluShifts.amount AluShifts.shift-value AluShifts.shift-carry AluShifts.sign-changes AluShifts.shift-overflow AluShifts.shifted AluProducts.product AluProducts.divided State.well-formed Micro.registers Micro.set Micro.fetched Micro.load Micro.store Micro.sensed Micro.driven Perform.perform Operands.register Operands.set-register Operands.indexed Operands.stepped Operands.operand Groups.set-status Groups.conclude Groups.conclude-judged Groups.combine Groups.dual Groups.set-equal Groups.set-pair Groups.divide Groups.apply Groups.with-register Groups.cru-base Groups.drive-bits Groups.sense-bits Groups.transfer-width Groups.load-cru Groups.store-cru Groups.transfer Groups.reach Groups.access-bit Groups.jump-bytes Groups.jump Groups.shift-count Groups.shift Groups.replace Groups.modify Groups.single Groups.merge Groups.old Groups.immediate Groups.load-mask Groups.load-workspace Groups.store-status Groups.store-workspace Groups.switch Groups.switch-by-operand Groups.switch-by-number Groups.return Groups.command Execute.instruction Execute.execute Execute.again Step.signal Step.admitted Step.enter Step.proceed Step.boundary Step.stepping Step.step Run.missed Run.runs Run.run-refusal Run.run Run.power-up-refusal Run.power-up poked same-psi same-answer same-bytes holds
 every [] = true
 every (c ∷ cs) = elim (holds c) [ true ↦ every cs | false ↦ false ]
 

@@ -8,7 +8,7 @@ use Rattle.bits.specs.Logic.{both, either, exclusive, without, inverted, swappe
 use Rattle.memory.specs.declared.Width.{Width}
 use Rattle.memory.specs.declared.Width.the-variants.{Byte, Word}
 use Rattle.psi.specs.declared.CruBit.{CruBit}
-use Rattle.psi.specs.Cru.{first-bit, beyond, displacement}
+use Rattle.psi.specs.Cru.{first-bit, beyond, displaced}
 use Rattle.isa.specs.declared.Operand.{Operand}
 use Rattle.isa.specs.declared.DualOp.{DualOp}
 use Rattle.isa.specs.declared.DualOp.the-variants.{Szc, S, C, A, Mov, Soc}
@@ -149,7 +149,7 @@ reach Tb b = sensed b >>= set-equal
 
 -- SBO, SBZ and TB reach a bit by a signed displacement.
 unfoldable pub access-bit : BitOp → ℕ → Micro (Unit {0})
-access-bit op d = cru-base >>= λ b. reach op (beyond b (displacement d))
+access-bit op d = cru-base >>= λ b. reach op (displaced b d)
 
 -- a signed displacement of words, as the number of bytes further that it means where addresses wrap
 unfoldable pub jump-bytes : ℕ → ℕ

@@ -43,11 +43,11 @@ pub fn load(memory: &[u8], width: Width, address: u16) -> u16
 {
     match width {
         Width::Byte => {
-            let at = (address % 16384) as usize;
+            let at = (address as usize) % SIZE;
             wide(memory[at])
         }
         Width::Word => {
-            let at = (address / 2 * 2 % 16384) as usize;
+            let at = ((address / 2 * 2) as usize) % SIZE;
             word(memory[at], memory[at + 1])
         }
     }
@@ -60,11 +60,11 @@ pub fn store(memory: &mut [u8], width: Width, address: u16, value: u16)
 {
     match width {
         Width::Byte => {
-            let at = (address % 16384) as usize;
+            let at = (address as usize) % SIZE;
             memory[at] = (value % 256) as u8;
         }
         Width::Word => {
-            let at = (address / 2 * 2 % 16384) as usize;
+            let at = ((address / 2 * 2) as usize) % SIZE;
             memory[at] = (value / 256) as u8;
             memory[at + 1] = (value % 256) as u8;
         }

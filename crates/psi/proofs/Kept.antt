@@ -16,7 +16,8 @@ use Rattle.psi.specs.Cru.{controlled, masked, timed, latched, sensed, dr
 use Rattle.psi.specs.Formed.{well-formed}
 use Rattle.psi.specs.Kept.{Fits16, Kept, KeptFormed, KeptFits}
 use Rattle.psi.proofs.Cases.{either-way}
-use Rattle.psi.proofs.Put.{put-below, lowest-put, lowest-kept, without-put}
+use Rattle.bits.proofs.Laws.{put-fits, put-read, put-others}
+use Rattle.psi.proofs.Put.{without-put}
 
 -- a property that each change of fields keeps
 record Changes (P : Psi → Type 0) : Type 0 where
@@ -120,13 +121,13 @@ fits-changes =
       count = λ {p} h. fits-tick p h;
       phase = λ x l {p} h. omega arith;
       refresh = λ {p} h. fits-refreshed p h;
-      timer = λ {p} h. omega (arith, put-below 16 0 true (p .mask) (omega arith) (h .mask));
-      interrupts = λ {p} h. omega (arith, put-below 16 0 false (p .mask) (omega arith) (h .mask));
-      mask = λ n x l u {p} h. omega (arith, put-below 16 n x (p .mask) u (h .mask));
+      timer = λ {p} h. omega (arith, put-fits 16 0 true (p .mask) (omega arith) (h .mask));
+      interrupts = λ {p} h. omega (arith, put-fits 16 0 false (p .mask) (omega arith) (h .mask));
+      mask = λ n x l u {p} h. omega (arith, put-fits 16 n x (p .mask) u (h .mask));
       clear = λ {p} h. omega arith;
-      load = λ n x l {p} c h. omega (arith, put-below 16 n x (p .load) (omega arith) (h .load));
+      load = λ n x l {p} c h. omega (arith, put-fits 16 n x (p .load) (omega arith) (h .load));
       inputs = λ {p} h. omega arith;
-      port = λ k x l {p} h. omega (arith, put-below 16 k true (p .direction) l (h .direction), put-below 16 k x (p .latch) l (h .latch));
+      port = λ k x l {p} h. omega (arith, put-fits 16 k true (p .direction) l (h .direction), put-fits 16 k x (p .latch) l (h .latch));
     }
 
 pub kept-fits : KeptFits
@@ -221,11 +222,11 @@ form-changes =
       count = λ {p} f. form-tick p f;
       phase = λ x l {p} f. record { numbers = omega arith; follows = f .follows };
       refresh = λ {p} f. form-refreshed p (f .numbers);
-      timer = λ {p} f. record { numbers = omega arith; follows = λ c. cc (lowest-put true (p .mask)) };
+      timer = λ {p} f. record { numbers = omega arith; follows = λ c. cc (put-read 0 true (p .mask)) };
       interrupts = λ {p} f. form-refreshed (with-mask (put 0 false (p .mask)) p) (omega arith);
-      mask = λ n x l u {p} f. record { numbers = omega arith; follows = λ c. f .follows (sym (lowest-kept n x (p .mask) l) ∙ c) };
+      mask = λ n x l u {p} f. record { numbers = omega arith; follows = λ c. f .follows (sym (put-others 0 n x (p .mask) (omega arith)) ∙ c) };
       clear = λ {p} f. record { numbers = omega arith; follows = f .follows };
-      load = λ n x l {p} c f. record { numbers = omega (arith, put-below 14 n x (p .load) l (omega arith)); follows = λ z. cc };
+      load = λ n x l {p} c f. record { numbers = omega (arith, put-fits 14 n x (p .load) l (omega arith)); follows = λ z. cc };
       inputs = λ {p} f. record { numbers = omega (arith, no-latches); follows = f .follows };
       port = λ k x l {p} f.
           record {

@@ -2,7 +2,7 @@
 use Prim.Native.Nat.{ℕ, _+_, _-_, _/_, _%_}
 use mathlib.Core.Bool.{Bool, true, not}
 use lib.Dec.{eqb, ltb}
-use Rattle.bits.specs.Bits.{if_then_else_, bit, put}
+use Rattle.bits.specs.Bits.{if_then_else_, bit, put, signed-byte}
 use Rattle.psi.specs.declared.Psi.{Psi}
 use Rattle.psi.specs.declared.CruBase.{CruBase}
 use Rattle.psi.specs.declared.CruBit.{CruBit}
@@ -22,9 +22,9 @@ first-bit b = record { 0 = b .0 / 2 % bit-numbers }
 unfoldable pub beyond : CruBit → ℕ → CruBit
 beyond b d = record { 0 = (b .0 + d) % bit-numbers }
 
--- a signed 8-bit displacement, as the number of bits further that it means where bit numbers wrap
-unfoldable pub displacement : ℕ → ℕ
-displacement d = if ltb d 128 then d else (d + (bit-numbers - 256))
+-- SBO, SBZ and TB add a signed 8-bit displacement of bits.
+unfoldable pub displaced : CruBit → ℕ → CruBit
+displaced b d = beyond b (signed-byte bit-numbers d)
 
 -- Bits 1 to 15 with control 1: at 15 whether any enabled request is active; below it, the read register's bits.
 unfoldable pub timed-value : Psi → ℕ → ℕ → Bool

@@ -29,7 +29,7 @@ impl Psi {
     // Bits of a clock register, and the largest number that they hold.
     pub const CLOCK_BITS: u16 = 14;
 
-    pub const CLOCK_LARGEST: u16 = 16383;
+    pub const CLOCK_LARGEST: u16 = (1 << Psi::CLOCK_BITS) - 1;
     // Cycles of one tick.
     pub const TICK_CYCLES: u16 = 64;
     // The words that hold a PSI in an image, one a field.
@@ -92,6 +92,9 @@ pub struct Sensed {
     pub psi: Psi,
 }
 
+// The weight of a record's lowest bit of cycles; below it are 22 levels.
+const CYCLE: u32 = 1 << 22;
+
 // One pin record: 22 levels and the cycles before the step.
 pub struct Record {
     pub levels: u32,
@@ -103,8 +106,8 @@ pub fn split(word: u32) -> Record
     ensures { λ r. ⌜ r ≡ Pins.parted word ⌝ }
 {
     Record {
-        levels: word % 4194304,
-        cycles: (word / 4194304) as u16,
+        levels: word % CYCLE,
+        cycles: (word / CYCLE) as u16,
     }
 }
 
@@ -113,23 +116,30 @@ impl CruBase {
     pub fn bit(self) -> CruBit
         ensures { λ r. ⌜ r ≡ Cru.first-bit self ⌝ }
     {
-        CruBit(self.0 / 2 % 2048)
+        CruBit(self.0 / 2 % CruBit::NUMBERS)
     }
 }
 
-// A signed 8-bit displacement as the number of bits further that it means where bit numbers wrap.
-pub fn displacement(d: u16) -> u16
-    requires { ⌜ d < 256 ⌝ }
-    ensures { λ r. ⌜ r ≡ Cru.displacement d ⌝ }
-{
-    if d < 128 { d } else { d + 1792 }
-}
-
 impl CruBit {
+    // The bit number wraps here.
+    pub const NUMBERS: u16 = 2048;
+
     // The bit `d` bits further; bit numbers wrap.
     pub fn plus(self, d: u16) -> CruBit
         ensures { λ r. ⌜ r ≡ Cru.beyond self d ⌝ }
     {
-        CruBit((((self.0 as u32) + (d as u32)) % 2048) as u16)
+        CruBit((((self.0 as u32) + (d as u32)) % (CruBit::NUMBERS as u32)) as u16)
+    }
+
+    // The bit that lies a signed 8-bit displacement away.
+    pub fn displaced(self, d: u16) -> CruBit
+        ensures { λ r. ⌜ r ≡ Cru.displaced self d ⌝ }
+    {
+        let ahead = self.plus(d);
+        if d < 0x80 {
+            ahead
+        } else {
+            ahead.plus(CruBit::NUMBERS - 0x100)
+        }
     }
 }

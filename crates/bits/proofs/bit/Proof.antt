@@ -6,13 +6,5 @@ use Rattle.bits.specs.Bits.{bit}
 use Rattle.bits.proofs.bit.Statement.{statement}
 use Rattle.bits.proofs.bit.Tie as tie
 
-returns : tie.Need-returns
-unfolding bit
-returns c = search needs
-
-returns-2 : tie.Need-returns-2
-unfolding bit
-returns-2 c = rw (div-eq-of-lt (lt-of-lt-of-le (c .before .fits .w .fits) (pow-mono (c .if1 .left))))
-
 pub bit-spec : {M : Type 1} → statement M
-bit-spec = tie.close (tie.spec (λ c. search needs) returns returns-2)
+bit-spec = tie.close (tie.spec (λ c. search needs) (λ c. unfold bit in (search needs)) (λ c. unfold bit in (rw (div-eq-of-lt (lt-of-lt-of-le (c .before .fits .w .fits) (pow-mono (c .if1 .left)))))))

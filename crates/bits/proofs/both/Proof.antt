@@ -5,9 +5,5 @@ use Rattle.bits.proofs.Joined.{both-is}
 use Rattle.bits.proofs.both.Statement.{statement}
 use Rattle.bits.proofs.both.Tie as tie
 
-returns : tie.Need-returns
-unfolding both
-returns c = sym (both-is 16 (c .args .a) (c .args .b) (c .fits .a .fits) (c .fits .b .fits))
-
 pub both-spec : {M : Type 1} → statement M
-both-spec = tie.close (tie.spec returns)
+both-spec = tie.close (tie.spec (λ c. unfold both in (sym (both-is 16 (c .args .a) (c .args .b) (c .fits .a .fits) (c .fits .b .fits)))))

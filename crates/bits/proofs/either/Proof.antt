@@ -5,9 +5,5 @@ use Rattle.bits.proofs.Joined.{either-is}
 use Rattle.bits.proofs.either.Statement.{statement}
 use Rattle.bits.proofs.either.Tie as tie
 
-returns : tie.Need-returns
-unfolding either
-returns c = sym (either-is 16 (c .args .a) (c .args .b) (c .fits .a .fits) (c .fits .b .fits))
-
 pub either-spec : {M : Type 1} → statement M
-either-spec = tie.close (tie.spec returns)
+either-spec = tie.close (tie.spec (λ c. unfold either in (sym (either-is 16 (c .args .a) (c .args .b) (c .fits .a .fits) (c .fits .b .fits)))))

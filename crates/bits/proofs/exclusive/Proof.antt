@@ -5,9 +5,5 @@ use Rattle.bits.proofs.Joined.{exclusive-is}
 use Rattle.bits.proofs.exclusive.Statement.{statement}
 use Rattle.bits.proofs.exclusive.Tie as tie
 
-returns : tie.Need-returns
-unfolding exclusive
-returns c = sym (exclusive-is 16 (c .args .a) (c .args .b) (c .fits .a .fits) (c .fits .b .fits))
-
 pub exclusive-spec : {M : Type 1} → statement M
-exclusive-spec = tie.close (tie.spec returns)
+exclusive-spec = tie.close (tie.spec (λ c. unfold exclusive in (sym (exclusive-is 16 (c .args .a) (c .args .b) (c .fits .a .fits) (c .fits .b .fits)))))

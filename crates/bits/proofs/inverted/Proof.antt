@@ -5,9 +5,5 @@ use Rattle.bits.specs.Logic.{inverted}
 use Rattle.bits.proofs.inverted.Statement.{statement}
 use Rattle.bits.proofs.inverted.Tie as tie
 
-returns : tie.Need-returns
-unfolding inverted
-returns c = refl
-
 pub inverted-spec : {M : Type 1} → statement M
-inverted-spec = tie.close (tie.spec (λ c. search needs) returns)
+inverted-spec = tie.close (tie.spec (λ c. search needs) (λ c. unfold inverted in (refl)))

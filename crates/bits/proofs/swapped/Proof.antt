@@ -5,9 +5,5 @@ use Rattle.bits.specs.Logic.{swapped}
 use Rattle.bits.proofs.swapped.Statement.{statement}
 use Rattle.bits.proofs.swapped.Tie as tie
 
-returns : tie.Need-returns
-unfolding swapped
-returns c = refl
-
 pub swapped-spec : {M : Type 1} → statement M
-swapped-spec = tie.close (tie.spec (λ c. search needs) (λ c. search needs) returns)
+swapped-spec = tie.close (tie.spec (λ c. search needs) (λ c. search needs) (λ c. unfold swapped in (refl)))

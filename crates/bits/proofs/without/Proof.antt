@@ -9,9 +9,5 @@ use Rattle.bits.proofs.without.Tie as tie
 sub-result : tie.Need-sub-result
 sub-result c = and-le-l (c .args .a) (c .args .b)
 
-returns : tie.Need-returns
-unfolding without
-returns c = sym (without-is 16 (c .args .a) (c .args .b) (c .fits .a .fits) (c .fits .b .fits))
-
 pub without-spec : {M : Type 1} → statement M
-without-spec = tie.close (tie.spec sub-result returns)
+without-spec = tie.close (tie.spec sub-result (λ c. unfold without in (sym (without-is 16 (c .args .a) (c .args .b) (c .fits .a .fits) (c .fits .b .fits)))))

@@ -5,14 +5,6 @@ use Rattle.isa.specs.Isa.{decoded}
 use Rattle.isa.proofs.decode.Statement.{statement}
 use Rattle.isa.proofs.decode.Tie as tie
 
-returns : tie.Need-returns
-unfolding decoded
-returns c = rw (le-leb 0x4000 _ (c .before .if1 .taken)) (c .dual .ensures)
-
-returns-2 : tie.Need-returns-2
-unfolding decoded
-returns-2 c = rw (lt-leb 0x4000 _ (c .before .before .if1 .left), le-leb 0x2000 _ (c .before .if2 .taken)) (c .with-register .ensures)
-
 returns-3 : tie.Need-returns-3
 unfolding decoded
 returns-3 c =
@@ -68,4 +60,4 @@ returns-7 c =
     )
 
 pub decode-spec : {M : Type 1} → statement M
-decode-spec = tie.close (tie.spec (λ c κs. search needs) returns (λ c κs. search needs) returns-2 (λ c κs. search needs) returns-3 (λ c κs. search needs) returns-4 (λ c κs. search needs) returns-5 (λ c κs. search needs) returns-6 returns-7)
+decode-spec = tie.close (tie.spec (λ c κs. search needs) (λ c. unfold decoded in (rw (le-leb 0x4000 _ (c .before .if1 .taken)) (c .dual .ensures))) (λ c κs. search needs) (λ c. unfold decoded in (rw (lt-leb 0x4000 _ (c .before .before .if1 .left), le-leb 0x2000 _ (c .before .if2 .taken)) (c .with-register .ensures))) (λ c κs. search needs) returns-3 (λ c κs. search needs) returns-4 (λ c κs. search needs) returns-5 (λ c κs. search needs) returns-6 returns-7)

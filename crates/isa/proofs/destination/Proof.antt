@@ -4,9 +4,5 @@ use Rattle.isa.specs.Isa.{destination}
 use Rattle.isa.proofs.destination.Statement.{statement}
 use Rattle.isa.proofs.destination.Tie as tie
 
-returns : tie.Need-returns
-unfolding destination
-returns c = c .source .ensures
-
 pub destination-spec : {M : Type 1} → statement M
-destination-spec = tie.close (tie.spec (λ c κs. search needs) returns)
+destination-spec = tie.close (tie.spec (λ c κs. search needs) (λ c. unfold destination in (c .source .ensures)))

@@ -10,4 +10,4 @@ returns c =
     rw (c .before .before .before .dual-operation .ensures, c .before .before .dual-width .ensures, c .before .source .ensures, c .destination .ensures)
 
 pub dual-spec : {M : Type 1} → statement M
-dual-spec = tie.close (tie.spec (λ c κs. search needs) (λ c κs. search needs) (λ c κs. search needs) (λ c κs. search needs) returns)
+dual-spec = tie.close (tie.spec (λ c. search needs) (λ c κs. search needs) (λ c κs. search needs) (λ c κs. search needs) (λ c κs. search needs) returns)

@@ -5,33 +5,9 @@ use Rattle.isa.specs.Isa.{immediate}
 use Rattle.isa.proofs.immediate.Statement.{statement}
 use Rattle.isa.proofs.immediate.Tie as tie
 
-returns : tie.Need-returns
-unfolding immediate
-returns c = rw (lt-ltb _ 0x02A0 (c .before .if1 .taken), c .immediate-operation .ensures)
-
-returns-2 : tie.Need-returns-2
-unfolding immediate
-returns-2 c = rw (le-ltb _ 0x02A0 (c .before .if1 .left), c .match .keys1)
-
-returns-3 : tie.Need-returns-3
-unfolding immediate
-returns-3 c = rw (le-ltb _ 0x02A0 (c .before .if1 .left), c .match .keys2)
-
-returns-4 : tie.Need-returns-4
-unfolding immediate
-returns-4 c = rw (le-ltb _ 0x02A0 (c .before .if1 .left), c .match .keys3)
-
-returns-5 : tie.Need-returns-5
-unfolding immediate
-returns-5 c = rw (le-ltb _ 0x02A0 (c .before .if1 .left), c .match .keys4)
-
-returns-6 : tie.Need-returns-6
-unfolding immediate
-returns-6 c = rw (le-ltb _ 0x02A0 (c .before .if1 .left), c .match .keys5)
-
 returns-7 : tie.Need-returns-7
 unfolding immediate
 returns-7 c = simp (le-ltb _ 0x02A0 (c .before .before .if1 .left), ne-eqb _ _ (c .before .match .rest .1), ne-eqb _ _ (c .before .match .rest .0 .1), ne-eqb _ _ (c .before .match .rest .0 .0 .1), ne-eqb _ _ (c .before .match .rest .0 .0 .0 .1), ne-eqb _ _ (c .before .match .rest .0 .0 .0 .0 .1), c .control-operation .ensures)
 
 pub immediate-spec : {M : Type 1} → statement M
-immediate-spec = tie.close (tie.spec (λ c κs. search needs) (λ c κs. search needs) returns returns-2 returns-3 returns-4 returns-5 returns-6 returns-7)
+immediate-spec = tie.close (tie.spec (λ c. search needs) (λ c κs. search needs) (λ c κs. search needs) (λ c. unfold immediate in (rw (lt-ltb _ 0x02A0 (c .before .if1 .taken), c .immediate-operation .ensures))) (λ c. unfold immediate in (rw (le-ltb _ 0x02A0 (c .before .if1 .left), c .match .keys1))) (λ c. unfold immediate in (rw (le-ltb _ 0x02A0 (c .before .if1 .left), c .match .keys2))) (λ c. unfold immediate in (rw (le-ltb _ 0x02A0 (c .before .if1 .left), c .match .keys3))) (λ c. unfold immediate in (rw (le-ltb _ 0x02A0 (c .before .if1 .left), c .match .keys4))) (λ c. unfold immediate in (rw (le-ltb _ 0x02A0 (c .before .if1 .left), c .match .keys5))) returns-7)

@@ -4,25 +4,5 @@ use Rattle.isa.specs.Isa.{immediate-operation}
 use Rattle.isa.proofs.immediate_operation.Statement.{statement}
 use Rattle.isa.proofs.immediate_operation.Tie as tie
 
-returns : tie.Need-returns
-unfolding immediate-operation
-returns c = rw (c .match .keys1)
-
-returns-2 : tie.Need-returns-2
-unfolding immediate-operation
-returns-2 c = rw (c .match .keys2)
-
-returns-3 : tie.Need-returns-3
-unfolding immediate-operation
-returns-3 c = rw (c .match .keys3)
-
-returns-4 : tie.Need-returns-4
-unfolding immediate-operation
-returns-4 c = rw (c .match .keys4)
-
-returns-5 : tie.Need-returns-5
-unfolding immediate-operation
-returns-5 c = simp (ne-eqb _ _ (c .match .rest .1), ne-eqb _ _ (c .match .rest .0 .1), ne-eqb _ _ (c .match .rest .0 .0 .1), ne-eqb _ _ (c .match .rest .0 .0 .0 .1))
-
 pub immediate-operation-spec : {M : Type 1} → statement M
-immediate-operation-spec = tie.close (tie.spec returns returns-2 returns-3 returns-4 returns-5)
+immediate-operation-spec = tie.close (tie.spec (λ c. unfold immediate-operation in (rw (c .match .keys1))) (λ c. unfold immediate-operation in (rw (c .match .keys2))) (λ c. unfold immediate-operation in (rw (c .match .keys3))) (λ c. unfold immediate-operation in (rw (c .match .keys4))) (λ c. unfold immediate-operation in (simp (ne-eqb _ _ (c .match .rest .1), ne-eqb _ _ (c .match .rest .0 .1), ne-eqb _ _ (c .match .rest .0 .0 .1), ne-eqb _ _ (c .match .rest .0 .0 .0 .1)))))

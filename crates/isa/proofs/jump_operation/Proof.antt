@@ -4,57 +4,9 @@ use Rattle.isa.specs.Isa.{jump-operation}
 use Rattle.isa.proofs.jump_operation.Statement.{statement}
 use Rattle.isa.proofs.jump_operation.Tie as tie
 
-returns : tie.Need-returns
-unfolding jump-operation
-returns c = rw (c .match .keys1)
-
-returns-2 : tie.Need-returns-2
-unfolding jump-operation
-returns-2 c = rw (c .match .keys2)
-
-returns-3 : tie.Need-returns-3
-unfolding jump-operation
-returns-3 c = rw (c .match .keys3)
-
-returns-4 : tie.Need-returns-4
-unfolding jump-operation
-returns-4 c = rw (c .match .keys4)
-
-returns-5 : tie.Need-returns-5
-unfolding jump-operation
-returns-5 c = rw (c .match .keys5)
-
-returns-6 : tie.Need-returns-6
-unfolding jump-operation
-returns-6 c = rw (c .match .keys6)
-
-returns-7 : tie.Need-returns-7
-unfolding jump-operation
-returns-7 c = rw (c .match .keys7)
-
-returns-8 : tie.Need-returns-8
-unfolding jump-operation
-returns-8 c = rw (c .match .keys8)
-
-returns-9 : tie.Need-returns-9
-unfolding jump-operation
-returns-9 c = rw (c .match .keys9)
-
-returns-10 : tie.Need-returns-10
-unfolding jump-operation
-returns-10 c = rw (c .match .keys10)
-
-returns-11 : tie.Need-returns-11
-unfolding jump-operation
-returns-11 c = rw (c .match .keys11)
-
-returns-12 : tie.Need-returns-12
-unfolding jump-operation
-returns-12 c = rw (c .match .keys12)
-
 returns-13 : tie.Need-returns-13
 unfolding jump-operation
 returns-13 c = simp (ne-eqb _ _ (c .match .rest .1), ne-eqb _ _ (c .match .rest .0 .1), ne-eqb _ _ (c .match .rest .0 .0 .1), ne-eqb _ _ (c .match .rest .0 .0 .0 .1), ne-eqb _ _ (c .match .rest .0 .0 .0 .0 .1), ne-eqb _ _ (c .match .rest .0 .0 .0 .0 .0 .1), ne-eqb _ _ (c .match .rest .0 .0 .0 .0 .0 .0 .1), ne-eqb _ _ (c .match .rest .0 .0 .0 .0 .0 .0 .0 .1), ne-eqb _ _ (c .match .rest .0 .0 .0 .0 .0 .0 .0 .0 .1), ne-eqb _ _ (c .match .rest .0 .0 .0 .0 .0 .0 .0 .0 .0 .1), ne-eqb _ _ (c .match .rest .0 .0 .0 .0 .0 .0 .0 .0 .0 .0 .1), ne-eqb _ _ (c .match .rest .0 .0 .0 .0 .0 .0 .0 .0 .0 .0 .0 .1))
 
 pub jump-operation-spec : {M : Type 1} → statement M
-jump-operation-spec = tie.close (tie.spec returns returns-2 returns-3 returns-4 returns-5 returns-6 returns-7 returns-8 returns-9 returns-10 returns-11 returns-12 returns-13)
+jump-operation-spec = tie.close (tie.spec (λ c. unfold jump-operation in (rw (c .match .keys1))) (λ c. unfold jump-operation in (rw (c .match .keys2))) (λ c. unfold jump-operation in (rw (c .match .keys3))) (λ c. unfold jump-operation in (rw (c .match .keys4))) (λ c. unfold jump-operation in (rw (c .match .keys5))) (λ c. unfold jump-operation in (rw (c .match .keys6))) (λ c. unfold jump-operation in (rw (c .match .keys7))) (λ c. unfold jump-operation in (rw (c .match .keys8))) (λ c. unfold jump-operation in (rw (c .match .keys9))) (λ c. unfold jump-operation in (rw (c .match .keys10))) (λ c. unfold jump-operation in (rw (c .match .keys11))) (λ c. unfold jump-operation in (rw (c .match .keys12))) returns-13)

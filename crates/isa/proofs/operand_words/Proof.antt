@@ -4,13 +4,5 @@ use Rattle.isa.specs.Isa.{operand-words}
 use Rattle.isa.proofs.operand_words.Statement.{statement}
 use Rattle.isa.proofs.operand_words.Tie as tie
 
-returns : tie.Need-returns
-unfolding operand-words
-returns c = rw (eq-eqb _ _ (c .if1 .taken))
-
-returns-2 : tie.Need-returns-2
-unfolding operand-words
-returns-2 c = rw (ne-eqb _ _ (c .if1 .left))
-
 pub operand-words-spec : {M : Type 1} → statement M
-operand-words-spec = tie.close (tie.spec returns returns-2)
+operand-words-spec = tie.close (tie.spec (λ c. unfold operand-words in (rw (eq-eqb _ _ (c .if1 .taken)))) (λ c. unfold operand-words in (rw (ne-eqb _ _ (c .if1 .left)))))

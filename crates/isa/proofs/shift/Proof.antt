@@ -5,13 +5,5 @@ use Rattle.isa.specs.Isa.{shift}
 use Rattle.isa.proofs.shift.Statement.{statement}
 use Rattle.isa.proofs.shift.Tie as tie
 
-returns : tie.Need-returns
-unfolding shift
-returns c = rw (lt-ltb _ 0x0C00 (c .before .if1 .taken), c .shift-operation .ensures)
-
-returns-2 : tie.Need-returns-2
-unfolding shift
-returns-2 c = rw (le-ltb _ 0x0C00 (c .if1 .left))
-
 pub shift-spec : {M : Type 1} → statement M
-shift-spec = tie.close (tie.spec (λ c κs. search needs) returns returns-2)
+shift-spec = tie.close (tie.spec (λ c. search needs) (λ c κs. search needs) (λ c. unfold shift in (rw (lt-ltb _ 0x0C00 (c .before .if1 .taken), c .shift-operation .ensures))) (λ c. unfold shift in (rw (le-ltb _ 0x0C00 (c .if1 .left)))))

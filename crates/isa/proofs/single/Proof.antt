@@ -5,23 +5,11 @@ use Rattle.isa.specs.Isa.{single}
 use Rattle.isa.proofs.single.Statement.{statement}
 use Rattle.isa.proofs.single.Tie as tie
 
-returns : tie.Need-returns
-unfolding single
-returns c = rw (lt-ltb _ 0x0780 (c .before .before .if1 .taken), c .match .keys1, c .before .source .ensures)
-
-returns-2 : tie.Need-returns-2
-unfolding single
-returns-2 c = rw (lt-ltb _ 0x0780 (c .before .before .if1 .taken), c .match .keys2, c .before .source .ensures)
-
 returns-3 : tie.Need-returns-3
 unfolding single
 returns-3 c =
     simp (lt-ltb _ 0x0780 (c .before .before .before .if1 .taken), ne-eqb _ _ (c .before .match .rest .1), ne-eqb _ _ (c .before .match .rest .0 .1), c .before .before .source .ensures, c .single-operation .ensures)
 
-returns-4 : tie.Need-returns-4
-unfolding single
-returns-4 c = rw (le-ltb _ 0x0780 (c .if1 .left))
-
 pub single-spec : {M : Type 1} → statement M
 single-spec =
-    tie.close (tie.spec (λ c κs. search needs) (λ c κs. search needs) returns returns-2 returns-3 returns-4)
+    tie.close (tie.spec (λ c κs. search needs) (λ c. search needs) (λ c κs. search needs) (λ c. unfold single in (rw (lt-ltb _ 0x0780 (c .before .before .if1 .taken), c .match .keys1, c .before .source .ensures))) (λ c. unfold single in (rw (lt-ltb _ 0x0780 (c .before .before .if1 .taken), c .match .keys2, c .before .source .ensures))) returns-3 (λ c. unfold single in (rw (le-ltb _ 0x0780 (c .if1 .left)))))

@@ -4,9 +4,5 @@ use Rattle.isa.specs.Isa.{source}
 use Rattle.isa.proofs.source.Statement.{statement}
 use Rattle.isa.proofs.source.Tie as tie
 
-returns : tie.Need-returns
-unfolding source
-returns c = refl
-
 pub source-spec : {M : Type 1} → statement M
-source-spec = tie.close (tie.spec returns)
+source-spec = tie.close (tie.spec (λ c. unfold source in (refl)))

@@ -5,13 +5,5 @@ use Rattle.isa.specs.Isa.{with-displacement}
 use Rattle.isa.proofs.with_displacement.Statement.{statement}
 use Rattle.isa.proofs.with_displacement.Tie as tie
 
-returns : tie.Need-returns
-unfolding with-displacement
-returns c = rw (lt-ltb _ 0x1D00 (c .before .if1 .taken), c .jump-operation .ensures)
-
-returns-2 : tie.Need-returns-2
-unfolding with-displacement
-returns-2 c = rw (le-ltb _ 0x1D00 (c .before .if1 .left), c .bit-operation .ensures)
-
 pub with-displacement-spec : {M : Type 1} → statement M
-with-displacement-spec = tie.close (tie.spec (λ c κs. search needs) (λ c κs. search needs) returns returns-2)
+with-displacement-spec = tie.close (tie.spec (λ c. search needs) (λ c κs. search needs) (λ c κs. search needs) (λ c. unfold with-displacement in (rw (lt-ltb _ 0x1D00 (c .before .if1 .taken), c .jump-operation .ensures))) (λ c. unfold with-displacement in (rw (le-ltb _ 0x1D00 (c .before .if1 .left), c .bit-operation .ensures))))

@@ -5,18 +5,6 @@ use Rattle.isa.specs.Isa.{with-register}
 use Rattle.isa.proofs.with_register.Statement.{statement}
 use Rattle.isa.proofs.with_register.Tie as tie
 
-returns : tie.Need-returns
-unfolding with-register
-returns c = rw (c .match .keys1, c .before .source .ensures)
-
-returns-2 : tie.Need-returns-2
-unfolding with-register
-returns-2 c = rw (c .match .keys2, c .before .source .ensures)
-
-returns-3 : tie.Need-returns-3
-unfolding with-register
-returns-3 c = rw (c .match .keys3, c .before .source .ensures)
-
 returns-4 : tie.Need-returns-4
 unfolding with-register
 returns-4 c =
@@ -24,4 +12,4 @@ returns-4 c =
 
 pub with-register-spec : {M : Type 1} → statement M
 with-register-spec =
-    tie.close (tie.spec (λ c κs. search needs) (λ c κs. search needs) returns returns-2 returns-3 returns-4)
+    tie.close (tie.spec (λ c κs. search needs) (λ c. search needs) (λ c κs. search needs) (λ c. unfold with-register in (rw (c .match .keys1, c .before .source .ensures))) (λ c. unfold with-register in (rw (c .match .keys2, c .before .source .ensures))) (λ c. unfold with-register in (rw (c .match .keys3, c .before .source .ensures))) returns-4)

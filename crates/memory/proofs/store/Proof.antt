@@ -11,14 +11,6 @@ use Rattle.memory.proofs.store.Tie as tie
 slice-write-memory-3 : tie.Need-slice-write-memory-3
 slice-write-memory-3 c = simp length-set (omega arith)
 
-returns : tie.Need-returns
-unfolding stored spread place
-returns c = rw (c .enum-told .given .1) (simp (add-zero, div-one, mul-one))
-
-returns-2 : tie.Need-returns-2
-unfolding stored spread place
-returns-2 c = rw (c .enum-told2 .given .1) (simp (add-zero, mod-eq-of-lt (let e : c .before .before .args .value / 256 < 256 = omega arith in e)))
-
 pub store-spec : {M : Type 1} → statement M
 store-spec =
     tie.close
@@ -33,9 +25,8 @@ store-spec =
     (λ c. search needs)
     (λ c. search needs)
     (λ c. search needs)
-    (λ c. search needs)
     slice-write-memory-3
     (λ c. search needs)
-    returns
+    (λ c. unfold stored spread place in (rw (c .enum-told .given .1) (simp (add-zero, div-one, mul-one))))
     (λ c. search needs)
-    returns-2)
+    (λ c. unfold stored spread place in (rw (c .enum-told2 .given .1) (simp (add-zero, mod-eq-of-lt (let e : c .before .before .args .value / 256 < 256 = omega arith in e))))))

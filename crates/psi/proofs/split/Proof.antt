@@ -5,9 +5,5 @@ use Rattle.psi.specs.Pins.{parted}
 use Rattle.psi.proofs.split.Statement.{statement}
 use Rattle.psi.proofs.split.Tie as tie
 
-returns : tie.Need-returns
-unfolding parted
-returns c = refl
-
 pub split-spec : {M : Type 1} → statement M
-split-spec = tie.close (tie.spec (λ c. search needs) returns)
+split-spec = tie.close (tie.spec (λ c. search needs) (λ c. unfold parted in (refl)))

@@ -10,10 +10,6 @@ use borrow.Author.Needs.{needs}
 use Rattle.alu.proofs.products.divided.Statement.{statement}
 use Rattle.alu.proofs.products.divided.Tie as tie
 
-returns : tie.Need-returns
-unfolding divided
-returns c = simp (le-leb (c .before .args .d) (c .before .args .p .high) (omega arith))
-
 cast-t10 : tie.Need-cast-t10
 cast-t10 c =
     let a = c .before .before .args in
@@ -25,15 +21,11 @@ cast-t11 c =
     let some : 0 < a .d = omega arith in
     omega (arith, mod-lt (a .p .high * 65536 + a .p .low) some)
 
-returns-2 : tie.Need-returns-2
-unfolding divided
-returns-2 c = simp (lt-leb (c .before .before .args .d) (c .before .before .args .p .high) (omega arith))
-
 pub divided-spec : {M : Type 1} → statement M
 divided-spec =
     tie.close
     (tie.spec
-    returns
+    (λ c. unfold divided in (simp (le-leb (c .before .args .d) (c .before .args .p .high) (omega arith))))
     (λ c. search needs)
     (λ c. search needs)
     (λ c. search needs)
@@ -42,4 +34,4 @@ divided-spec =
     cast-t10
     (λ c. search needs)
     cast-t11
-    returns-2)
+    (λ c. unfold divided in (simp (lt-leb (c .before .before .args .d) (c .before .before .args .p .high) (omega arith)))))

@@ -13,9 +13,5 @@ mul-all c = omega (arith, product-below 16 (c .fits .a .fits) (c .fits .b .fits)
 cast-t6 : tie.Need-cast-t6
 cast-t6 c = omega (arith, product-below 16 (c .fits .a .fits) (c .fits .b .fits))
 
-returns : tie.Need-returns
-unfolding product
-returns c = refl
-
 pub product-spec : {M : Type 1} → statement M
-product-spec = tie.close (tie.spec mul-all cast-t6 (λ c. search needs) returns)
+product-spec = tie.close (tie.spec mul-all cast-t6 (λ c. search needs) (λ c. unfold product in (refl)))

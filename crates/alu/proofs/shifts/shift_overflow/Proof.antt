@@ -5,22 +5,6 @@ use borrow.Author.Needs.{needs}
 use Rattle.alu.proofs.shifts.shift_overflow.Statement.{statement}
 use Rattle.alu.proofs.shifts.shift_overflow.Tie as tie
 
-returns : tie.Need-returns
-unfolding shift-overflow
-returns c = rw (c .before .before .enum-told .given .1, c .put .ensures, c .before .sign-changes .ensures) refl
-
-returns-2 : tie.Need-returns-2
-unfolding shift-overflow
-returns-2 c = rw (c .enum-told2 .given .1)
-
-returns-3 : tie.Need-returns-3
-unfolding shift-overflow
-returns-3 c = rw (c .enum-told3 .given .1)
-
-returns-4 : tie.Need-returns-4
-unfolding shift-overflow
-returns-4 c = rw (c .enum-told4 .given .1)
-
 pub shift-overflow-spec : {M : Type 1} → statement M
 shift-overflow-spec =
     tie.close
@@ -31,7 +15,7 @@ shift-overflow-spec =
     (λ c. search needs)
     (λ c. search needs)
     (λ c. search needs)
-    returns
-    returns-2
-    returns-3
-    returns-4)
+    (λ c. unfold shift-overflow in (rw (c .before .before .enum-told .given .1, c .put .ensures, c .before .sign-changes .ensures) refl))
+    (λ c. unfold shift-overflow in (rw (c .enum-told2 .given .1)))
+    (λ c. unfold shift-overflow in (rw (c .enum-told3 .given .1)))
+    (λ c. unfold shift-overflow in (rw (c .enum-told4 .given .1))))

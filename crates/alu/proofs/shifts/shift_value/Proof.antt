@@ -46,26 +46,6 @@ add-result-2 c = rw (turned c) (omega (arith, room-of (c .before .before .before
 cast-result-5 : tie.Need-cast-result-5
 cast-result-5 c = rw (turned c) (omega (arith, room-of (c .before .before .before .before)))
 
-returns : tie.Need-returns
-unfolding shift-value
-returns c = rw (c .enum-told .given .1) (omega arith)
-
-returns-2 : tie.Need-returns-2
-unfolding shift-value
-returns-2 c = rw (c .before .before .before .enum-told2 .given .1, ← c .before .before .bit .ensures, c .before .if1 .taken, c .weight .ensures)
-
-returns-3 : tie.Need-returns-3
-unfolding shift-value
-returns-3 c = rw (c .before .before .enum-told2 .given .1, ← c .before .bit .ensures, c .if1 .left) (omega arith)
-
-returns-4 : tie.Need-returns-4
-unfolding shift-value
-returns-4 c = rw (c .enum-told3 .given .1)
-
-returns-5 : tie.Need-returns-5
-unfolding shift-value
-returns-5 c = rw (c .before .before .enum-told4 .given .1, turned c)
-
 pub shift-value-spec : {M : Type 1} → statement M
 shift-value-spec =
     tie.close
@@ -92,8 +72,8 @@ shift-value-spec =
     mul-result
     add-result-2
     cast-result-5
-    returns
-    returns-2
-    returns-3
-    returns-4
-    returns-5)
+    (λ c. unfold shift-value in (rw (c .enum-told .given .1) (omega arith)))
+    (λ c. unfold shift-value in (rw (c .before .before .before .enum-told2 .given .1, ← c .before .before .bit .ensures, c .before .if1 .taken, c .weight .ensures)))
+    (λ c. unfold shift-value in (rw (c .before .before .enum-told2 .given .1, ← c .before .bit .ensures, c .if1 .left) (omega arith)))
+    (λ c. unfold shift-value in (rw (c .enum-told3 .given .1)))
+    (λ c. unfold shift-value in (rw (c .before .before .enum-told4 .given .1, turned c))))

@@ -8,8 +8,5 @@ use Rattle.alu.proofs.shifts.sign_changes.Tie as tie
 sub-result : tie.Need-sub-result
 sub-result c = omega (arith, c .weight .ensures, room (c .before .args .v) (c .before .args .k) (c .before .fits .v .fits) (c .before .pre))
 
-returns : tie.Need-returns
-returns c = rw (changes-is (c .before .args .k) (c .before .args .v) (c .before .pre) (c .before .fits .v .fits), c .weight .ensures)
-
 pub sign-changes-spec : {M : Type 1} → statement M
-sign-changes-spec = tie.close (tie.spec (λ c. search needs) (λ c κs. search needs) (λ c. search needs) sub-result returns)
+sign-changes-spec = tie.close (tie.spec (λ c. search needs) (λ c κs. search needs) (λ c. search needs) sub-result (λ c. rw (changes-is (c .before .args .k) (c .before .args .v) (c .before .pre) (c .before .fits .v .fits), c .weight .ensures)))

@@ -4,9 +4,5 @@ use borrow.Author.Needs.{needs}
 use Rattle.alu.proofs.status.carried.Statement.{statement}
 use Rattle.alu.proofs.status.carried.Tie as tie
 
-returns : tie.Need-returns
-unfolding carried
-returns c = rw (c .put2 .ensures, c .before .put .ensures)
-
 pub carried-spec : {M : Type 1} → statement M
-carried-spec = tie.close (tie.spec (λ c κs. search needs) (λ c κs. search needs) returns)
+carried-spec = tie.close (tie.spec (λ c κs. search needs) (λ c κs. search needs) (λ c. unfold carried in (rw (c .put2 .ensures, c .before .put .ensures))))

@@ -4,9 +4,5 @@ use borrow.Author.Needs.{needs}
 use Rattle.alu.proofs.status.judged.Statement.{statement}
 use Rattle.alu.proofs.status.judged.Tie as tie
 
-returns : tie.Need-returns
-unfolding judged
-returns c = rw (c .parity .ensures, c .before .compared .ensures)
-
 pub judged-spec : {M : Type 1} → statement M
-judged-spec = tie.close (tie.spec (λ c κs. search needs) (λ c κs. search needs) returns)
+judged-spec = tie.close (tie.spec (λ c κs. search needs) (λ c κs. search needs) (λ c. unfold judged in (rw (c .parity .ensures, c .before .compared .ensures))))

@@ -5,11 +5,5 @@ use borrow.Author.Needs.{needs}
 use Rattle.alu.proofs.status.reduced.Statement.{statement}
 use Rattle.alu.proofs.status.reduced.Tie as tie
 
-returns : tie.Need-returns
-returns c = rw (c .enum-told .given .1)
-
-returns-2 : tie.Need-returns-2
-returns-2 c = rw (c .enum-told2 .given .1) (sym (mod-eq-of-lt (c .before .before .fits .v .fits)))
-
 pub reduced-spec : {M : Type 1} → statement M
-reduced-spec = tie.close (tie.spec (λ c. search needs) (λ c. search needs) returns returns-2)
+reduced-spec = tie.close (tie.spec (λ c. search needs) (λ c. search needs) (λ c. rw (c .enum-told .given .1)) (λ c. rw (c .enum-told2 .given .1) (sym (mod-eq-of-lt (c .before .before .fits .v .fits)))))

@@ -5,9 +5,5 @@ use borrow.Author.Needs.{needs}
 use Rattle.alu.proofs.sums.absolute.Statement.{statement}
 use Rattle.alu.proofs.sums.absolute.Tie as tie
 
-returns : tie.Need-returns
-unfolding absolute
-returns c = rw (c .carried .ensures, c .before .compared .ensures, c .before .before .magnitude .ensures) refl
-
 pub absolute-spec : {M : Type 1} → statement M
-absolute-spec = tie.close (tie.spec (λ c κs. search needs) (λ c κs. search needs) (λ c κs. search needs) returns)
+absolute-spec = tie.close (tie.spec (λ c κs. search needs) (λ c κs. search needs) (λ c κs. search needs) (λ c. unfold absolute in (rw (c .carried .ensures, c .before .compared .ensures, c .before .before .magnitude .ensures) refl)))

@@ -1,7 +1,7 @@
--- `alu::sums::difference_overflows` meets its contract: the code is the definition, and the raised numbers are small.
+-- `alu::sums::difference_overflows` meets its contract: the raised numbers tell it, and they are small.
 use native.Mathlib.Omega.{arith}
-use Rattle.alu.specs.Sums.{difference-overflows}
 use Rattle.alu.proofs.Laws.{modulus-bounds, raised-below}
+use Rattle.alu.proofs.Raised.{raised-difference}
 use borrow.Author.Needs.{needs}
 use Rattle.alu.proofs.sums.difference_overflows.Statement.{statement}
 use Rattle.alu.proofs.sums.difference_overflows.Tie as tie
@@ -16,11 +16,7 @@ add-result-2 c =
     let a = c .before .before .before .args in
     omega (arith, modulus-bounds (a .width), raised-below (a .width) (a .s), c .raised2 .ensures, c .before .before .modulus .ensures)
 
-returns : tie.Need-returns
-unfolding difference-overflows
-returns c = rw (c .raised2 .ensures, c .before .raised .ensures, c .before .before .modulus .ensures)
-
 pub difference-overflows-spec : {M : Type 1} → statement M
 difference-overflows-spec =
     tie.close
-    (tie.spec (λ c κs. search needs) (λ c κs. search needs) (λ c κs. search needs) add-result add-result-2 returns)
+    (tie.spec (λ c κs. search needs) (λ c κs. search needs) (λ c κs. search needs) add-result add-result-2 (λ c. rw (raised-difference _ _ _, c .raised2 .ensures, c .before .raised .ensures, c .before .before .modulus .ensures)))

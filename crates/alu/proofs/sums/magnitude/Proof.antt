@@ -4,11 +4,5 @@ use borrow.Author.Needs.{needs}
 use Rattle.alu.proofs.sums.magnitude.Statement.{statement}
 use Rattle.alu.proofs.sums.magnitude.Tie as tie
 
-returns : tie.Need-returns
-returns c = rw (← c .before .before .bit .ensures, c .before .if1 .taken) (omega arith)
-
-returns-2 : tie.Need-returns-2
-returns-2 c = rw (← c .before .bit .ensures, c .if1 .left) (omega arith)
-
 pub magnitude-spec : {M : Type 1} → statement M
-magnitude-spec = tie.close (tie.spec (λ c κs. search needs) (λ c κs. search needs) returns returns-2)
+magnitude-spec = tie.close (tie.spec (λ c κs. search needs) (λ c κs. search needs) (λ c. rw (← c .before .before .bit .ensures, c .before .if1 .taken) (omega arith)) (λ c. rw (← c .before .bit .ensures, c .if1 .left) (omega arith)))

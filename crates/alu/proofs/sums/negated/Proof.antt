@@ -4,9 +4,5 @@ use borrow.Author.Needs.{needs}
 use Rattle.alu.proofs.sums.negated.Statement.{statement}
 use Rattle.alu.proofs.sums.negated.Tie as tie
 
-returns : tie.Need-returns
-unfolding negated
-returns c = c .difference .ensures
-
 pub negated-spec : {M : Type 1} → statement M
-negated-spec = tie.close (tie.spec (λ c κs. search needs) returns)
+negated-spec = tie.close (tie.spec (λ c κs. search needs) (λ c. unfold negated in (c .difference .ensures)))

@@ -4,9 +4,5 @@ use Rattle.psi.specs.Cru.{first-bit}
 use Rattle.psi.proofs.CruBase.bit.Statement.{statement}
 use Rattle.psi.proofs.CruBase.bit.Tie as tie
 
-returns : tie.Need-returns
-unfolding first-bit
-returns c = refl
-
 pub bit-spec : {M : Type 1} → statement M
-bit-spec = tie.close (tie.spec returns)
+bit-spec = tie.close (tie.spec (λ c. unfold first-bit in (refl)))

@@ -5,9 +5,5 @@ use Rattle.psi.specs.Cru.{beyond}
 use Rattle.psi.proofs.CruBit.plus.Statement.{statement}
 use Rattle.psi.proofs.CruBit.plus.Tie as tie
 
-returns : tie.Need-returns
-unfolding beyond
-returns c = refl
-
 pub plus-spec : {M : Type 1} → statement M
-plus-spec = tie.close (tie.spec (λ c. search needs) (λ c. search needs) (λ c. search needs) returns)
+plus-spec = tie.close (tie.spec (λ c. search needs) (λ c. search needs) (λ c. search needs) (λ c. search needs) (λ c. search needs) (λ c. unfold beyond in (refl)))

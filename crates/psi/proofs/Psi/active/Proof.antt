@@ -6,10 +6,6 @@ use borrow.Author.Needs.{needs}
 use Rattle.psi.proofs.Psi.active.Statement.{statement}
 use Rattle.psi.proofs.Psi.active.Tie as tie
 
-returns : tie.Need-returns
-unfolding active
-returns c = rw (eq-eqb _ _ (c .before .before .before .if1 .taken), c .before .if2 .taken)
-
 returns-2 : tie.Need-returns-2
 unfolding active
 returns-2 c =
@@ -20,4 +16,4 @@ returns-2 c =
     (c .before .if1 .came))
 
 pub active-spec : {M : Type 1} → statement M
-active-spec = tie.close (tie.spec (λ c κs. search needs) returns returns-2)
+active-spec = tie.close (tie.spec (λ c κs. search needs) (λ c. unfold active in (rw (eq-eqb _ _ (c .before .before .before .if1 .taken), c .before .if2 .taken))) returns-2)

@@ -4,13 +4,5 @@ use borrow.Author.Needs.{needs}
 use Rattle.psi.proofs.Psi.controlled.Statement.{statement}
 use Rattle.psi.proofs.Psi.controlled.Tie as tie
 
-returns : tie.Need-returns
-unfolding controlled
-returns c = rw (c .before .put .ensures, c .if1 .taken)
-
-returns-2 : tie.Need-returns-2
-unfolding controlled
-returns-2 c = rw (c .refreshed .ensures, c .before .before .put .ensures, c .before .if1 .left)
-
 pub controlled-spec : {M : Type 1} → statement M
-controlled-spec = tie.close (tie.spec (λ c κs. search needs) (λ c κs. search needs) returns returns-2)
+controlled-spec = tie.close (tie.spec (λ c κs. search needs) (λ c κs. search needs) (λ c. unfold controlled in (rw (c .before .put .ensures, c .if1 .taken))) (λ c. unfold controlled in (rw (c .refreshed .ensures, c .before .before .put .ensures, c .before .if1 .left))))

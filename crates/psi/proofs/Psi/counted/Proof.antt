@@ -19,9 +19,5 @@ returns-2 c =
     let spent : c .before .before .before .before .args .self .decrementer ≡ 0 = omega arith in
     rw (eq-eqb _ _ spent, ne-eqb _ _ (c .if2 .left))
 
-returns-3 : tie.Need-returns-3
-unfolding counted
-returns-3 c = rw (ne-eqb _ _ (c .before .if1 .left))
-
 pub counted-spec : {M : Type 1} → statement M
-counted-spec = tie.close (tie.spec (λ c. search needs) returns returns-2 returns-3)
+counted-spec = tie.close (tie.spec (λ c. search needs) returns returns-2 (λ c. unfold counted in (rw (ne-eqb _ _ (c .before .if1 .left)))))

@@ -5,10 +5,6 @@ use borrow.Author.Needs.{needs}
 use Rattle.psi.proofs.Psi.drive.Statement.{statement}
 use Rattle.psi.proofs.Psi.drive.Tie as tie
 
-returns : tie.Need-returns
-unfolding driven
-returns c = rw (eq-eqb _ _ (c .before .if1 .taken), c .controlled .ensures)
-
 returns-2 : tie.Need-returns-2
 unfolding driven
 returns-2 c =
@@ -55,7 +51,7 @@ drive-spec =
     tie.close
     (tie.spec
     (λ c κs. search needs)
-    returns
+    (λ c. unfold driven in (rw (eq-eqb _ _ (c .before .if1 .taken), c .controlled .ensures)))
     (λ c κs. search needs)
     (λ c. search needs)
     (λ c κs. search needs)

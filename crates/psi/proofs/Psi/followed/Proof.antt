@@ -4,13 +4,5 @@ use borrow.Author.Needs.{needs}
 use Rattle.psi.proofs.Psi.followed.Statement.{statement}
 use Rattle.psi.proofs.Psi.followed.Tie as tie
 
-returns : tie.Need-returns
-unfolding followed
-returns c = rw (← c .before .control .ensures, c .if1 .taken)
-
-returns-2 : tie.Need-returns-2
-unfolding followed
-returns-2 c = rw (c .refreshed .ensures, ← c .before .before .control .ensures, c .before .if1 .left)
-
 pub followed-spec : {M : Type 1} → statement M
-followed-spec = tie.close (tie.spec (λ c κs. search needs) (λ c κs. search needs) returns returns-2)
+followed-spec = tie.close (tie.spec (λ c κs. search needs) (λ c κs. search needs) (λ c. unfold followed in (rw (← c .before .control .ensures, c .if1 .taken))) (λ c. unfold followed in (rw (c .refreshed .ensures, ← c .before .before .control .ensures, c .before .if1 .left))))

@@ -4,9 +4,5 @@ use borrow.Author.Needs.{needs}
 use Rattle.psi.proofs.Psi.latched.Statement.{statement}
 use Rattle.psi.proofs.Psi.latched.Tie as tie
 
-returns : tie.Need-returns
-unfolding latched
-returns c = rw (c .refreshed .ensures, c .before .put2 .ensures, c .before .before .put .ensures)
-
 pub latched-spec : {M : Type 1} → statement M
-latched-spec = tie.close (tie.spec (λ c κs. search needs) (λ c κs. search needs) (λ c κs. search needs) returns)
+latched-spec = tie.close (tie.spec (λ c κs. search needs) (λ c κs. search needs) (λ c κs. search needs) (λ c. unfold latched in (rw (c .refreshed .ensures, c .before .put2 .ensures, c .before .before .put .ensures))))

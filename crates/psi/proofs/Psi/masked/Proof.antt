@@ -13,9 +13,5 @@ returns c =
     let third : c .before .before .args .n ≡ 3 = omega arith in
     rw (eq-eqb _ _ third, c .before .put .ensures)
 
-returns-2 : tie.Need-returns-2
-unfolding masked
-returns-2 c = rw (ne-eqb _ _ (c .if1 .left), c .before .put .ensures)
-
 pub masked-spec : {M : Type 1} → statement M
-masked-spec = tie.close (tie.spec (λ c κs. search needs) returns returns-2)
+masked-spec = tie.close (tie.spec (λ c κs. search needs) returns (λ c. unfold masked in (rw (ne-eqb _ _ (c .if1 .left), c .before .put .ensures))))

@@ -5,18 +5,10 @@ use Rattle.psi.specs.Clock.{pended}
 use Rattle.psi.proofs.Psi.pended.Statement.{statement}
 use Rattle.psi.proofs.Psi.pended.Tie as tie
 
-returns : tie.Need-returns
-unfolding pended
-returns c = simp (eq-eqb _ _ (c .if1 .taken))
-
 returns-2 : tie.Need-returns-2
 unfolding pended
 returns-2 c =
     simp (ne-eqb _ _ (c .before .before .if1 .left), ← c .before .counted .ensures, eq-eqb _ _ (c .if2 .taken))
 
-returns-3 : tie.Need-returns-3
-unfolding pended
-returns-3 c = simp (ne-eqb _ _ (c .before .before .if1 .left), ← c .before .counted .ensures, ne-eqb _ _ (c .if2 .left))
-
 pub pended-spec : {M : Type 1} → statement M
-pended-spec = tie.close (tie.spec returns (λ c κs. search needs) returns-2 returns-3)
+pended-spec = tie.close (tie.spec (λ c. unfold pended in (simp (eq-eqb _ _ (c .if1 .taken)))) (λ c κs. search needs) returns-2 (λ c. unfold pended in (simp (ne-eqb _ _ (c .before .before .if1 .left), ← c .before .counted .ensures, ne-eqb _ _ (c .if2 .left)))))

@@ -4,10 +4,6 @@ use borrow.Author.Needs.{needs}
 use Rattle.psi.proofs.Psi.port_level.Statement.{statement}
 use Rattle.psi.proofs.Psi.port_level.Tie as tie
 
-returns : tie.Need-returns
-unfolding port-level
-returns c = rw (c .bit2 .ensures, ← c .before .before .before .bit .ensures, c .before .before .if1 .taken)
-
 returns-2 : tie.Need-returns-2
 unfolding port-level
 returns-2 c =
@@ -28,5 +24,5 @@ port-level-spec =
     (λ c κs. search needs)
     (λ c κs. search needs)
     (λ c κs. search needs)
-    returns
+    (λ c. unfold port-level in (rw (c .bit2 .ensures, ← c .before .before .before .bit .ensures, c .before .before .if1 .taken)))
     returns-2)

@@ -4,13 +4,5 @@ use borrow.Author.Needs.{needs}
 use Rattle.psi.proofs.Psi.requested.Statement.{statement}
 use Rattle.psi.proofs.Psi.requested.Tie as tie
 
-returns : tie.Need-returns
-unfolding requested
-returns c = rw (c .active .ensures, ← c .before .before .bit .ensures, c .before .if1 .taken)
-
-returns-2 : tie.Need-returns-2
-unfolding requested
-returns-2 c = rw (← c .before .bit .ensures, c .if1 .left)
-
 pub requested-spec : {M : Type 1} → statement M
-requested-spec = tie.close (tie.spec (λ c. search needs) (λ c κs. search needs) (λ c κs. search needs) returns returns-2)
+requested-spec = tie.close (tie.spec (λ c. search needs) (λ c κs. search needs) (λ c κs. search needs) (λ c. unfold requested in (rw (c .active .ensures, ← c .before .before .bit .ensures, c .before .if1 .taken))) (λ c. unfold requested in (rw (← c .before .bit .ensures, c .if1 .left))))

@@ -5,10 +5,6 @@ use borrow.Author.Needs.{needs}
 use Rattle.psi.proofs.Psi.sense.Statement.{statement}
 use Rattle.psi.proofs.Psi.sense.Tie as tie
 
-returns : tie.Need-returns
-unfolding sensed
-returns c = rw (lt-ltb _ _ (c .if1 .taken), c .before .sensed-value .ensures)
-
 returns-2 : tie.Need-returns-2
 unfolding sensed
 returns-2 c =
@@ -30,4 +26,4 @@ returns-3 c =
 
 pub sense-spec : {M : Type 1} → statement M
 sense-spec =
-    tie.close (tie.spec (λ c κs. search needs) (λ c κs. search needs) returns returns-2 returns-3)
+    tie.close (tie.spec (λ c κs. search needs) (λ c κs. search needs) (λ c. unfold sensed in (rw (lt-ltb _ _ (c .if1 .taken), c .before .sensed-value .ensures))) returns-2 returns-3)

@@ -5,10 +5,6 @@ use borrow.Author.Needs.{needs}
 use Rattle.psi.proofs.Psi.sensed_value.Statement.{statement}
 use Rattle.psi.proofs.Psi.sensed_value.Tie as tie
 
-returns : tie.Need-returns
-unfolding sensed-value
-returns c = rw (eq-eqb _ _ (c .before .if1 .taken), c .control .ensures)
-
 returns-2 : tie.Need-returns-2
 unfolding sensed-value
 returns-2 c =
@@ -55,7 +51,7 @@ sensed-value-spec =
     tie.close
     (tie.spec
     (λ c κs. search needs)
-    returns
+    (λ c. unfold sensed-value in (rw (eq-eqb _ _ (c .before .if1 .taken), c .control .ensures)))
     (λ c κs. search needs)
     (λ c κs. search needs)
     (λ c κs. search needs)

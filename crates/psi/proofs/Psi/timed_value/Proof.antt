@@ -5,14 +5,6 @@ use borrow.Author.Needs.{needs}
 use Rattle.psi.proofs.Psi.timed_value.Statement.{statement}
 use Rattle.psi.proofs.Psi.timed_value.Tie as tie
 
-returns : tie.Need-returns
-unfolding timed-value
-returns c = rw (eq-eqb _ _ (c .before .if1 .taken), c .request .ensures)
-
-returns-2 : tie.Need-returns-2
-unfolding timed-value
-returns-2 c = rw (ne-eqb _ _ (c .before .before .if1 .left), c .bit .ensures)
-
 pub timed-value-spec : {M : Type 1} → statement M
 timed-value-spec =
-    tie.close (tie.spec (λ c κs. search needs) (λ c. search needs) (λ c. search needs) (λ c κs. search needs) returns returns-2)
+    tie.close (tie.spec (λ c κs. search needs) (λ c. search needs) (λ c. search needs) (λ c κs. search needs) (λ c. unfold timed-value in (rw (eq-eqb _ _ (c .before .if1 .taken), c .request .ensures))) (λ c. unfold timed-value in (rw (ne-eqb _ _ (c .before .before .if1 .left), c .bit .ensures))))

@@ -5,9 +5,5 @@ use borrow.Author.Needs.{needs}
 use Rattle.psi.proofs.Psi.well_formed.Statement.{statement}
 use Rattle.psi.proofs.Psi.well_formed.Tie as tie
 
-returns : tie.Need-returns
-unfolding well-formed
-returns c = rw (c .before .before .without .ensures, c .before .control .ensures) (simp and-assoc)
-
 pub well-formed-spec : {M : Type 1} → statement M
-well-formed-spec = tie.close (tie.spec (λ c κs. search needs) (λ c κs. search needs) returns)
+well-formed-spec = tie.close (tie.spec (λ c κs. search needs) (λ c κs. search needs) (λ c. unfold well-formed in (rw (c .before .before .without .ensures, c .before .control .ensures) (simp and-assoc))))

@@ -1,1 +1,0 @@
-// No code: random single steps, computed from the definitions, agree with the independent program.
