@@ -6,13 +6,8 @@ ghost use Rattle.machine.specs.Execute as Execute;
 ghost use Rattle.machine.specs.Perform.{perform, performed};
 use isa::Instruction;
 use machine::Deed;
+use machine::Executed;
 use machine::State;
-
-// What an executed word was, and the state after it.
-pub struct Executed {
-    pub deed: Deed,
-    pub state: State,
-}
 
 // What every instruction but X does.
 pub fn perform_instruction(

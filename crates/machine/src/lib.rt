@@ -26,6 +26,12 @@ pub enum Deed {
     Returned,
 }
 
+// What an executed word was, and the state after it.
+pub struct Executed {
+    pub deed: Deed,
+    pub state: State,
+}
+
 // What the request code stands for at a step's boundary.
 pub enum Signal {
     Reset,
