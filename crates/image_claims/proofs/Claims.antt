@@ -23,7 +23,7 @@ use Rattle.image_claims.proofs.Read.{image-back}
 use Rattle.image_claims.proofs.Lowest.{Low, low, judged, wrong-check, right-check, wrong-number}
 
 -- a well-formed state, a memory and a buffer of the right sizes are written
-writes :
+pub writes :
     (s : State) (m buffer : List ℕ) → well-formed s ≡ true → length m ≡ size → length buffer ≡ Image.image-size
     → write s m buffer ≡ record { answer = record { number = 0; state = s }; image = Image.image s m }
 unfolding write write-fault

@@ -1,0 +1,1 @@
+// No code: theorems about the program's definition, in specs/ and proofs/.
