@@ -1,8 +1,8 @@
 -- The instructions, form by form. Document 01: source before destination; for each the address, then the increment stored, then
 -- the value (or vector) read; R12 is read after the operand; the result is stored last. Nothing is read whose value is not needed.
-use Prim.Native.Nat.{ℕ, zero, suc, _+_, _-_, _*_, _/_, _%_}
+use Prim.Native.Nat.{ℕ, zero, suc, _+_, _*_, _/_, _%_}
 use mathlib.Core.Bool.{Bool, true, false}
-use lib.Dec.{eqb, ltb, leb}
+use lib.Dec.{eqb, leb}
 use Rattle.bits.specs.Bits.{if_then_else_, one-if, bit, put, signed-byte}
 use Rattle.bits.specs.Logic.{both, either, exclusive, without, inverted, swapped}
 use Rattle.memory.specs.declared.Width.{Width}

@@ -19,18 +19,15 @@ use Rattle.machine.specs.Groups.{dual, dual-effect, single-effect, switc
 abbrev pub Dual-in-order : Type 0
 Dual-in-order =
     (v : ℕ) (op : DualOp) (w : Width) (s d : Operand) (m : Machine)
-    → accesses v (dual op w s d) m
-    ≡ accesses v (operand w s) m
-    ++ (was-read w (from v w s m .value) ∷ (accesses v (operand w d) (from v w s m .machine) ++ accesses v (dual-effect op w (source v w s m) (to v w s d m .value)) (to v w s d m .machine)))
+    → accesses v (dual op w s d) m ≡ accesses v (operand w s) m ++ rest v op w d (perform v (operand w s) m)
   where
-    from : ℕ → Width → Operand → Machine → Performed ℕ
-    from v w s m = perform v (operand w s) m
-
-    source : ℕ → Width → Operand → Machine → ℕ
-    source v w s m = loaded w (from v w s m .machine .memory) (from v w s m .value)
-
-    to : ℕ → Width → Operand → Operand → Machine → Performed ℕ
-    to v w s d m = perform v (operand w d) (from v w s m .machine)
+    -- from the source's address on
+    rest : ℕ → DualOp → Width → Operand → Performed ℕ → List Access
+    rest v op w d from = was-read w (from .value) ∷ (accesses v (operand w d) (from .machine) ++ last v op w (loaded w (from .machine .memory) (from .value)) (perform v (operand w d) (from .machine)))
+      where
+        -- from the destination's address on
+        last : ℕ → DualOp → Width → ℕ → Performed ℕ → List Access
+        last v op w x to = accesses v (dual-effect op w x (to .value)) (to .machine)
 
 -- ABS reads its operand, and stores it only where it is negative.
 abbrev pub Abs-in-order : Type 0
