@@ -88,21 +88,21 @@ Difference-says =
 abbrev pub Negated-says : Type 0
 Negated-says =
     (v st : ℕ) → v < 65536
-    → (bit carry (negated v st .st) ≡ eqb v 0) × (bit overflow (negated v st .st) ≡ eqb v 32768)
+    → (bit carry (negated v st .st) ≡ eqb v 0) × (bit overflow (negated v st .st) ≡ eqb v 0x8000)
 
 -- ABS judges the operand, clears C, and sets OV exactly if the operand is 8000h.
 abbrev pub Absolute-says : Type 0
 Absolute-says =
     (v st : ℕ) → v < 65536
     → (bit logical-greater (absolute v st .st) ≡ ltb 0 v)
-    × (bit arithmetic-greater (absolute v st .st) ≡ ltb 0 v && ltb v 32768)
+    × (bit arithmetic-greater (absolute v st .st) ≡ ltb 0 v && ltb v 0x8000)
     × (bit equal (absolute v st .st) ≡ eqb v 0)
     × (bit carry (absolute v st .st) ≡ false)
-    × (bit overflow (absolute v st .st) ≡ eqb v 32768)
+    × (bit overflow (absolute v st .st) ≡ eqb v 0x8000)
 
 -- ABS of a number without the sign is the number, of any other what it lacks to 65536.
 abbrev pub Absolute-value : Type 0
-Absolute-value = (v st : ℕ) → v < 65536 → absolute v st .value ≡ (if ltb v 32768 then v else 65536 - v)
+Absolute-value = (v st : ℕ) → v < 65536 → absolute v st .value ≡ (if ltb v 0x8000 then v else 65536 - v)
 
 -- DEC: C exactly if the operand is not 0.
 abbrev pub Decremented-carry : Type 0

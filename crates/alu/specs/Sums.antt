@@ -47,5 +47,5 @@ unfoldable pub absolute : ℕ → ℕ → Outcome
 absolute v st =
     record {
       value = if bit 15 v then (65536 - v) % 65536 else v;
-      st = carried false (eqb v 32768) (compared Word v 0 st);
+      st = carried false (eqb v 0x8000) (compared Word v 0 st);
     }

@@ -79,6 +79,6 @@ pub fn absolute(v: u16, st: u16) -> Outcome
     let judged = status::compared(Width::Word, v, 0, st);
     Outcome {
         value,
-        st: status::carried(false, v == 32768, judged),
+        st: status::carried(false, v == 0x8000, judged),
     }
 }
