@@ -18,8 +18,9 @@ use Rattle.machine.specs.Laws.{Words}
 use Rattle.machine.specs.Run as Run
 use Rattle.image_blocks.specs.Image as Image
 use Rattle.image.specs.Calls as Calls
-use Rattle.tms_replay.specs.Exported.{fits, held, unfit, state-of, run, write}
-use Rattle.tms_replay.proofs.Fits.{fit-at}
+use Rattle.state_array.specs.Arrays.{fits, held, unfit, state-of}
+use Rattle.state_array.proofs.Below.{fit-at}
+use Rattle.tms_replay.specs.Exported.{run, write}
 use Rattle.exported_claims.specs.Arrays.{State-of-its-words, Words-of-their-state, Refused-runs, Unfit-runs, Unfit-writes}
 
 pub state-of-its-words : State-of-its-words

@@ -17,7 +17,8 @@ use Rattle.run_rules.proofs.Laws as Rules
 use Rattle.book_claim.specs.Claim.{Chained}
 use Rattle.book_claim.proofs.Step.{Sound, step-sound}
 use Rattle.book_claim.proofs.Claim.{open-entries-are-kept}
-use Rattle.tms_replay.specs.Exported.{Ran, state-of, handed, run}
+use Rattle.state_array.specs.Arrays.{state-of}
+use Rattle.tms_replay.specs.Exported.{Ran, run}
 use Rattle.exported_claims.specs.Runs.{Observed, Linked, seen, as-seen, Open-entries-are-kept-by-tms-run}
 use Rattle.exported_claims.proofs.Arrays.{state-of-its-words, state-words, run-refused}
 
