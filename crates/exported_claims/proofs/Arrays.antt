@@ -6,10 +6,10 @@ use mathlib.Core.Bool.{Bool, true, false, not}
 use mathlib.Core.List.{List, [], _∷_}
 use native.Mathlib.Omega.{arith}
 use native.Mathlib.Numerals.{add-one}
-use borrow.Author.Tests.{lt-ltb, ne-eqb, eqb-true, eqb-false}
+use borrow.Author.Tests.{lt-ltb, ne-eqb}
 use lib.ListN.{length, getD, drop, drop-of-length-le}
 use lib.Seq.{drop-cons}
-use lib.Dec.{eqb, ltb}
+use lib.Dec.{eqb}
 use Rattle.bits.specs.Bits.{if_then_else_}
 use Rattle.memory.specs.Memory.{size}
 use Rattle.machine.specs.declared.State.{State}
@@ -18,8 +18,9 @@ use Rattle.machine.specs.Laws.{Words}
 use Rattle.machine.specs.Run as Run
 use Rattle.image_blocks.specs.Image as Image
 use Rattle.image.specs.Calls as Calls
-use Rattle.tms_replay.specs.Exported.{fits, held, unfit, state-of, run, write}
-use Rattle.tms_replay.proofs.Fits.{fit-at}
+use Rattle.state_array.specs.Arrays.{fits, held, unfit, state-of}
+use Rattle.state_array.proofs.Below.{fit-at}
+use Rattle.tms_replay.specs.Exported.{run, write}
 use Rattle.exported_claims.specs.Arrays.{State-of-its-words, Words-of-their-state, Refused-runs, Unfit-runs, Unfit-writes}
 
 pub state-of-its-words : State-of-its-words

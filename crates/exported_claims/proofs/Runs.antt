@@ -1,11 +1,11 @@
 -- What was observed of the calls of `tms_run` is what would have been observed of the calls of run: the array of an accepted call is the words
 -- of the state after it, which fit, and that of a refused call is the one that was given.
 use Prim.Native.Nat.{ℕ, zero, suc}
-use mathlib.Core.Path.{_≡_, refl, sym, subst, ap, _∙_}
+use mathlib.Core.Path.{_≡_, refl, sym, subst, ap}
 use mathlib.Core.Bool.{Bool, true, false}
 use mathlib.Core.List.{List, [], _∷_}
 use borrow.Author.Tests.{eqb-true, eqb-false}
-use lib.ListN.{length, getD}
+use lib.ListN.{length}
 use lib.Dec.{eqb}
 use Rattle.machine.specs.declared.State.{State}
 use Rattle.machine.specs.State.{Machine, at}
@@ -17,7 +17,8 @@ use Rattle.run_rules.proofs.Laws as Rules
 use Rattle.book_claim.specs.Claim.{Chained}
 use Rattle.book_claim.proofs.Step.{Sound, step-sound}
 use Rattle.book_claim.proofs.Claim.{open-entries-are-kept}
-use Rattle.tms_replay.specs.Exported.{Ran, state-of, handed, run}
+use Rattle.state_array.specs.Arrays.{state-of}
+use Rattle.tms_replay.specs.Exported.{Ran, run}
 use Rattle.exported_claims.specs.Runs.{Observed, Linked, seen, as-seen, Open-entries-are-kept-by-tms-run}
 use Rattle.exported_claims.proofs.Arrays.{state-of-its-words, state-words, run-refused}
 

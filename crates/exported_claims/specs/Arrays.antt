@@ -10,7 +10,8 @@ use Rattle.memory.specs.Memory.{size}
 use Rattle.machine.specs.declared.State.{State}
 use Rattle.machine.specs.Laws.{Words}
 use Rattle.image_blocks.specs.Image as Image
-use Rattle.tms_replay.specs.Exported.{state-words, fits, state-of, run, write}
+use Rattle.state_array.specs.Arrays.{state-words, fits, state-of}
+use Rattle.tms_replay.specs.Exported.{run, write}
 
 -- The words of a state and the state of words are inverse where they fit.
 abbrev pub State-of-its-words : Type 0

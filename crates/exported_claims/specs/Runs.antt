@@ -6,8 +6,9 @@ use lib.ListN.{getD}
 use Rattle.machine.specs.State.{at}
 use Rattle.book.specs.Book.{Call, all-moments}
 use Rattle.book_claim.specs.Claim.{Seen, calls, Each, Respected, Kept, Calls-kept}
+use Rattle.state_array.specs.Arrays.{state-of}
 use Rattle.tms_replay.specs.Exported as Exported
-use Rattle.tms_replay.specs.Exported.{Ran, state-of}
+use Rattle.tms_replay.specs.Exported.{Ran}
 
 -- what was observed of a call: its arguments, and what it answered and left
 pub record Observed : Type 0 where

@@ -7,7 +7,7 @@ use native.Mathlib.Nat.{zero-add}
 use lib.ListN.{length, take, drop, length-append, length-take}
 use lib.Seq.{take-at}
 use Rattle.machine.specs.declared.State.{State}
-use Rattle.image_blocks.specs.Image.{block-count, block-size, content-size, check-at, image-size, content, words-bytes, fields, word-bytes, checked, block, blocks, image}
+use Rattle.image_blocks.specs.Image.{image-size, content, words-bytes, fields, word-bytes, checked, block, blocks, image}
 use Rattle.image_blocks.specs.Blocks.{unchecked}
 use Rattle.image_blocks.proofs.Lists.{length-padded, joined, joined-length, joined-part}
 

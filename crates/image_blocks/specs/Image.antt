@@ -26,12 +26,9 @@ check-at = block-size - 2
 abbrev pub image-size : ℕ
 image-size = block-count * block-size
 
--- the blocks that carry memory, and how much they could carry
+-- the blocks that carry memory
 abbrev pub page-count : ℕ
 page-count = block-count - 1
-
-abbrev pub page-bytes : ℕ
-page-bytes = page-count * content-size
 
 -- the two bytes of a word, the high one first
 abbrev pub word-bytes : ℕ → List ℕ

@@ -1,7 +1,7 @@
 // Single blocks: made, judged, and taken apart.
 ghost use mathlib.Core.Path.{_≡_};
 ghost use mathlib.Core.List.{List};
-ghost use Prim.Native.Nat.{ℕ, suc, min, _+_, _-_, _*_, _%_, _<_, _≤_};
+ghost use Prim.Native.Nat.{ℕ, suc, min, _+_, _-_, _*_, _%_, _<_};
 ghost use lib.ListN.{length, take};
 ghost use Rattle.memory.specs.Memory.{Installed, size};
 ghost use Rattle.image_blocks.specs.Image as Image;

@@ -12,9 +12,8 @@ use Rattle.memory.specs.Memory.{size}
 use Rattle.machine.specs.declared.State.{State}
 use Rattle.machine.specs.State.{well-formed}
 use Rattle.image_blocks.specs.Image as Image
-use Rattle.image.specs.declared.Fault.{Fault}
 use Rattle.image.specs.Calls.{read, read-fault, first-fault, write, write-fault}
-use Rattle.image_claims.specs.Claims.{Reads-what-was-written, Writes-what-was-read, Accepted-exactly, Sound-block, Lowest, Names-the-lowest}
+use Rattle.image_claims.specs.Claims.{Reads-what-was-written, Writes-what-was-read, Accepted-exactly, Sound-block, Names-the-lowest}
 use Rattle.image_blocks.proofs.Parts.{memory-length}
 use Rattle.image_claims.proofs.Written.{read-written}
 use Rattle.image.proofs.Accepted.{Accepted, accepted}

@@ -13,12 +13,12 @@ use Rattle.memory.specs.Memory.{size}
 use Rattle.machine.specs.declared.State.{State}
 use Rattle.machine.specs.State.{well-formed}
 use Rattle.machine.specs.Laws.{Words}
-use Rattle.image_blocks.specs.Image.{image-size, field-count, page-count, page-bytes, format, edition, content, words-bytes, fields, word-bytes, word-at, padded, checked, words-sum, zeros, block, image, block-of, content-of, contents-of, memory-of, field-of, psi-of, state-of, filler-of}
+use Rattle.image_blocks.specs.Image.{image-size, format, edition, content, words-bytes, fields, word-bytes, word-at, padded, checked, words-sum, zeros, block, image, block-of, content-of, contents-of, memory-of, field-of, psi-of, state-of, filler-of}
 use Rattle.image_blocks.specs.Image.{block-fault}
 use Rattle.image.specs.Calls.{fault, first-fault, content-fault, read-fault, read}
 use Rattle.image_blocks.proofs.Lists.{length-padded}
 use Rattle.image_blocks.proofs.Parts.{contents-joined, zeros-append}
-use Rattle.image_blocks.proofs.Written.{content-length, block-length, image-length, image-block}
+use Rattle.image_blocks.proofs.Written.{content-length, image-length, image-block}
 use Rattle.image_claims.proofs.Lists.{padded-part, joined-same, joined-shift, joined-parts}
 use Rattle.image_claims.proofs.Words.{checked-sum, word-among}
 

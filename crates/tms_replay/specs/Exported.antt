@@ -1,52 +1,12 @@
--- The calls as C, Fortran and Rust see them: a state is twelve numbers of 32 bits, counts are two numbers, a block one.
+-- The calls as C, Fortran and Rust see them: a state is an array of twelve numbers, counts are two numbers, a block one.
 use Prim.Native.Nat.{ℕ}
-use mathlib.Core.Bool.{Bool, true, _&&_}
 use mathlib.Core.List.{List, [], _∷_}
-use lib.ListN.{getD}
-use lib.Dec.{eqb, ltb}
+use lib.Dec.{eqb}
 use Rattle.bits.specs.Bits.{if_then_else_}
-use Rattle.psi.specs.Psi as Own
-use Rattle.machine.specs.declared.State.{State}
 use Rattle.machine.specs.Run as Run
 use Rattle.image_blocks.specs.Image as Image
 use Rattle.image.specs.Calls as Calls
-
--- how many words a state is: those of an image's block 0 after format and edition, `Image.fields`
-abbrev pub state-words : ℕ
-state-words = 12
-
--- whether each number fits its field of 16 bits
-unfoldable pub fits : List ℕ → Bool
-fits [] = true
-fits (x ∷ w) = ltb x 65536 && fits w
-
--- the state that twelve words are, in the order of `Image.fields`
-unfoldable pub held : List ℕ → State
-held w =
-    record {
-      wp = getD w 0 0;
-      pc = getD w 1 0;
-      st = getD w 2 0;
-      flags = getD w 3 0;
-      psi = record {
-        mask = getD w 4 0;
-        direction = getD w 5 0;
-        latch = getD w 6 0;
-        load = getD w 7 0;
-        decrementer = getD w 8 0;
-        reading = getD w 9 0;
-        phase = getD w 10 0;
-        pending = getD w 11 0;
-      };
-    }
-
--- a state that is not well formed: WP is odd
-abbrev pub unfit : State
-unfit = record { wp = 1; pc = 0; st = 0; flags = 0; psi = Own.blank }
-
--- The state of an array: a number that does not fit its field makes it not well formed.
-unfoldable pub state-of : List ℕ → State
-state-of w = if fits w then held w else unfit
+use Rattle.state_array.specs.Arrays.{state-of}
 
 -- What a call answers and leaves where it was lent something to be changed.
 pub record Powered : Type 0 where

@@ -1,14 +1,14 @@
 -- `fits` meets its contract: the numbers before `i` fit, so all do if those from `i` on do.
-use Prim.Native.Nat.{ℕ, _-_, _≤_}
+use Prim.Native.Nat.{_-_, _≤_}
 use mathlib.Core.Path.{_≡_, refl, sym, _∙_}
 use native.Mathlib.Omega.{arith}
 use borrow.Author.Tests.{lt-ltb, le-ltb}
 use lib.ListN.{length, getD, drop, drop-of-length-le}
-use Rattle.tms_replay.specs.Exported.{fits}
-use Rattle.tms_replay.proofs.Fits.{next}
+use Rattle.state_array.specs.Arrays.{fits}
+use Rattle.state_array.proofs.Below.{next}
 use borrow.Author.Needs.{needs}
-use Rattle.tms_replay.proofs.exported.fits.Statement.{statement}
-use Rattle.tms_replay.proofs.exported.fits.Tie as tie
+use Rattle.state_array.proofs.fits.Statement.{statement}
+use Rattle.state_array.proofs.fits.Tie as tie
 
 abbrev Inv-loop : tie.InvT-loop
 Inv-loop words i₀ i = (i ≤ 12) × (fits words ≡ fits (drop i words))

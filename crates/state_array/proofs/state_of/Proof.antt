@@ -3,11 +3,11 @@ use Prim.Native.Nat.{ℕ, _<_}
 use mathlib.Core.Path.{sym, _∙_}
 use borrow.Author.Tests.{not-true, not-false}
 use lib.ListN.{getD}
-use Rattle.tms_replay.specs.Exported.{state-of, held}
-use Rattle.tms_replay.proofs.Fits.{fit-at}
+use Rattle.state_array.specs.Arrays.{state-of, held}
+use Rattle.state_array.proofs.Below.{fit-at}
 use borrow.Author.Needs.{needs}
-use Rattle.tms_replay.proofs.exported.state_of.Statement.{statement}
-use Rattle.tms_replay.proofs.exported.state_of.Tie as tie
+use Rattle.state_array.proofs.state_of.Statement.{statement}
+use Rattle.state_array.proofs.state_of.Tie as tie
 
 -- past the test each number fits
 fit : (c : tie.Else1) (i : ℕ) → getD (c .before .before .before .args .t1) i 0 < 65536

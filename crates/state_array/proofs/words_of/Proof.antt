@@ -2,8 +2,8 @@
 use mathlib.Core.Path.{refl}
 use Rattle.image_blocks.specs.Image.{fields}
 use borrow.Author.Needs.{needs}
-use Rattle.tms_replay.proofs.exported.words_of.Statement.{statement}
-use Rattle.tms_replay.proofs.exported.words_of.Tie as tie
+use Rattle.state_array.proofs.words_of.Statement.{statement}
+use Rattle.state_array.proofs.words_of.Tie as tie
 
 returns : tie.Need-returns
 unfolding fields

@@ -1,0 +1,84 @@
+// A state as an array of numbers of 32 bits, for the exported calls.
+ghost use mathlib.Core.Path.{_≡_};
+ghost use Prim.Native.Nat.{_<_};
+ghost use Rattle.image_blocks.specs.Image as Image;
+ghost use Rattle.state_array.specs.Arrays as Arrays;
+use machine::State;
+use psi::Psi;
+
+// How many words a state is: WP, PC, ST, flags and the PSI's.
+pub const STATE_WORDS: usize = 4 + Psi::WORDS;
+
+// Whether each number fits its field of 16 bits.
+fn fits(words: [u32; STATE_WORDS]) -> bool
+    ensures { λ r. ⌜ r ≡ Arrays.fits words ⌝ }
+{
+    let mut i = 0;
+    while i < STATE_WORDS {
+        if words[i] > 0xFFFF {
+            return false;
+        }
+        i += 1;
+    }
+    true
+}
+
+// A number that fits 16 bits.
+fn narrow(x: u32) -> u16
+    requires { ⌜ x < 65536 ⌝ }
+    ensures { λ r. ⌜ r ≡ x ⌝ }
+{
+    x as u16
+}
+
+// The state of an array; one with a number that does not fit is not well formed.
+pub fn state_of(words: [u32; STATE_WORDS]) -> State
+    ensures { λ r. ⌜ r ≡ Arrays.state-of words ⌝ }
+{
+    let mut psi = Psi::blank();
+    if !fits(words) {
+        return State {
+            wp: 1,
+            pc: 0,
+            st: 0,
+            flags: 0,
+            psi,
+        };
+    }
+    psi.mask = narrow(words[4]);
+    psi.direction = narrow(words[5]);
+    psi.latch = narrow(words[6]);
+    psi.load = narrow(words[7]);
+    psi.decrementer = narrow(words[8]);
+    psi.reading = narrow(words[9]);
+    psi.phase = narrow(words[10]);
+    psi.pending = narrow(words[11]);
+    State {
+        wp: narrow(words[0]),
+        pc: narrow(words[1]),
+        st: narrow(words[2]),
+        flags: narrow(words[3]),
+        psi,
+    }
+}
+
+// The words of a state.
+pub fn words_of(state: State) -> [u32; STATE_WORDS]
+    ensures { λ r. ⌜ r ≡ Image.fields state ⌝ }
+{
+    let psi = state.psi;
+    [
+        state.wp as u32,
+        state.pc as u32,
+        state.st as u32,
+        state.flags as u32,
+        psi.mask as u32,
+        psi.direction as u32,
+        psi.latch as u32,
+        psi.load as u32,
+        psi.decrementer as u32,
+        psi.reading as u32,
+        psi.phase as u32,
+        psi.pending as u32,
+    ]
+}
