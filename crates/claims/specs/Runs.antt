@@ -25,7 +25,8 @@ abbrev pub followed : RunResult → List ℕ → ℕ → ℕ → RunResult
 followed first records b stop =
     joined (first .answer) (run (first .memory) (first .answer .state) (drop (first .answer .steps) records) b stop)
 
--- Where a + b records are there, running a, then b steps on the unused records with the same stop address, is running a + b.
+-- A run may be cut in two: a steps, then b more on the records that are left, with one stop address, come to what a + b steps do,
+-- provided that there are records for all.
 abbrev pub Runs-in-parts : Type 0
 Runs-in-parts =
     (m : List ℕ) (s : State) (records : List ℕ) (a b stop : ℕ)

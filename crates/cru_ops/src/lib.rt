@@ -112,7 +112,7 @@ fn store_cru(bytes: &mut [u8], state: State, levels: u32, count: u16, operand: O
     results::conclude_judged(bytes, sensed, width, to.value, found.value)
 }
 
-// LDCR and STCR; count 0 means 16.
+// LDCR and STCR, with the count as coded.
 pub fn transfer(
     bytes: &mut [u8],
     state: State,

@@ -134,8 +134,8 @@ single w =
     else Single (single-operation (opcode 0x40 w)) (source w))
     else Unassigned
 
--- 0200 to 03FF: the code is above the low five bits. The immediate forms, STWP and STST ignore weight 16, LWPI, LIMI and the
--- control forms the low five bits.
+-- 0200 to 03FF: the code is above the low five bits. Four of these are the register where a form has one; the other bits do
+-- not matter.
 unfoldable pub immediate-operation : ℕ → ImmediateOp
 immediate-operation code =
     if eqb code 0x0200 then Li
@@ -163,7 +163,7 @@ immediate w =
     else if eqb (opcode 0x20 w) 0x0320 then Unassigned
     else Control (control-operation (opcode 0x20 w))
 
--- Unassigned: 0000 to 01FF, 0320 to 033F, 0780 to 07FF, 0C00 to 0FFF.
+-- the instruction that a word is; `Words.in-gaps` has the words that are none
 unfoldable pub decoded : ℕ → Instruction
 decoded w =
     if leb 0x4000 w then dual w

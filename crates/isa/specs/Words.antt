@@ -62,7 +62,7 @@ is-unassigned Unassigned = true
 unfoldable pub within : ℕ → ℕ → ℕ → Bool
 within a b w = leb a w && leb w b
 
--- Unassigned: 0000 to 01FF, 0320 to 033F, 0780 to 07FF, 0C00 to 0FFF.
+-- the four ranges that no instruction has
 unfoldable pub in-gaps : ℕ → Bool
 in-gaps w = within 0x0000 0x01FF w || within 0x0320 0x033F w || within 0x0780 0x07FF w || within 0x0C00 0x0FFF w
 

@@ -56,6 +56,6 @@ again (suc k) o = (operand Word o >>= load Word) >>= execute-by (again k)
 unfoldable pub execute : ℕ → ℕ → Micro Deed
 execute k = execute-by (again k)
 
--- The ninth X of one step is read as an unassigned word.
+-- a step may execute eight X
 abbrev pub allowance : ℕ
 allowance = 8

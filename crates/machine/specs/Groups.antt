@@ -1,5 +1,5 @@
--- The instructions, form by form. Document 01: source before destination; for each the address, then the increment stored, then
--- the value (or vector) read; R12 is read after the operand; the result is stored last. Nothing is read whose value is not needed.
+-- The instructions, form by form, with document 01's order of accesses: the source's address, its increment and its value, then the
+-- destination's; R12 after them; the result at the end. Document 02 (Q-4) adds that no access is made whose value nobody needs.
 use Prim.Native.Nat.{ℕ, zero, suc, _+_, _*_, _/_, _%_}
 use mathlib.Core.Bool.{Bool, true, false}
 use lib.Dec.{eqb, leb}
@@ -74,7 +74,7 @@ set-equal b = set-status (put equal b)
 unfoldable pub set-pair : ℕ → Pair → Micro (Unit {0})
 set-pair n p = set-register n (p .high) >> set-register (n + 1) (p .low)
 
--- DIV: OV exactly if divisor ≤ high word, and then neither its pair nor another status bit changes.
+-- DIV of a pair by x. A quotient that would not fit a word sets OV and ends it there, so the low word is not even read.
 unfoldable pub divide : ℕ → ℕ → Micro (Unit {0})
 divide n x = do
   high ← register n
@@ -102,7 +102,7 @@ with-register op s n = do
   x ← load Word from
   register-effect op n x
 
--- LDCR, STCR, SBO, SBZ, TB: the bit number is R12 divided by 2, modulo 2048.
+-- LDCR, STCR, SBO, SBZ, TB: the CRU bit that R12 points at
 unfoldable pub cru-base : Micro CruBit
 cru-base = register 12 >>= λ r. done (first-bit (record { 0 = r }))
 
@@ -123,7 +123,7 @@ sense-bits (suc k) b = do
 unfoldable pub transfer-width : ℕ → Width
 transfer-width k = if leb k 8 then Byte else Word
 
--- LDCR judges its whole operand, OP too; R12 is read after the operand.
+-- LDCR of k bits: the status is that of the operand, however many bits go out.
 unfoldable pub load-cru : ℕ → Operand → Micro (Unit {0})
 load-cru k o = do
   from ← operand (transfer-width k) o
@@ -132,7 +132,7 @@ load-cru k o = do
   set-status (judged (transfer-width k) x)
   drive-bits k b x
 
--- STCR puts zeros above its bits; the result is judged and stored last.
+-- STCR of k bits: the operand becomes the number that they are, so its bits above them are 0.
 unfoldable pub store-cru : ℕ → Operand → Micro (Unit {0})
 store-cru k o = do
   to ← operand (transfer-width k) o
@@ -140,7 +140,7 @@ store-cru k o = do
   x ← sense-bits k b
   conclude-judged (transfer-width k) to x
 
--- LDCR and STCR: count 0 means 16.
+-- LDCR and STCR, with the count as coded
 unfoldable pub transfer : TransferOp → Operand → ℕ → Micro (Unit {0})
 transfer Ldcr o n = load-cru (amount n) o
 transfer Stcr o n = store-cru (amount n) o
@@ -151,7 +151,7 @@ bit-effect Sbo b = driven b true
 bit-effect Sbz b = driven b false
 bit-effect Tb b = sensed b >>= set-equal
 
--- SBO, SBZ and TB add a signed 8-bit displacement of bits.
+-- SBO, SBZ and TB: a bit near the one that R12 points at
 unfoldable pub access-bit : BitOp → ℕ → Micro (Unit {0})
 access-bit op d = cru-base >>= λ b. bit-effect op (displaced b d)
 
@@ -161,7 +161,7 @@ unfoldable pub jump : JumpOp → ℕ → Micro (Unit {0})
 jump op d = registers >>= λ r.
     if jumps op (r .st) then set to-pc ((r .pc + 2 * signed-byte 0x8000 d) % 65536) else done tt
 
--- Shift count 0 means R0 modulo 16, and 0 there means 16: the last two are `Shifts.amount`, which `shifted` takes.
+-- a shift's count: R0 stands in for a coded 0 (`Shifts.amount`, which `shifted` takes, reads four bits of it)
 unfoldable pub shift-count : ℕ → Micro ℕ
 shift-count c = if eqb c 0 then register 0 else done c
 
@@ -278,7 +278,7 @@ return = do
   set to-pc pc
   set to-st st
 
--- IDLE sets the idle flag, RSET zeroes the mask; CKON, CKOF, LREX do nothing else.
+-- the control forms: IDLE, RSET (the mask alone), RTWP; CKON, CKOF and LREX change nothing here
 unfoldable pub command : ControlOp → Micro (Unit {0})
 command Idle = registers >>= λ r. set to-flags (put idle true (r .flags))
 command Rset = set-status (masked 0)

@@ -42,7 +42,7 @@ at-once m = record { machine = m; steps = 0; unassigned = 0 }
 abbrev pub one-more : Kind → Ran → Ran
 one-more k r = record { machine = r .machine; steps = suc (r .steps); unassigned = missed k + r .unassigned }
 
--- At most n steps, one record each; before each step the run stops if PC equals the stop address.
+-- n steps at most, each with the next record; none is begun at the stop address.
 unfoldable pub runs : ℕ → ℕ → List ℕ → Machine → Ran
 runs stop zero rs m = at-once m
 runs stop (suc n) [] m = at-once m
@@ -99,7 +99,7 @@ pub record StateResult : Type 0 where
   pub answer : StateAnswer
   pub memory : List ℕ
 
--- Power up: blank PSI, then the reset entry from blank registers, with no-sample set.
+-- Power up is the reset entry taken by the blank state; the entry itself sets no-sample.
 unfoldable pub power-up : List ℕ → StateResult
 power-up m = if eqb refusal 0 then accepted else refused
   where

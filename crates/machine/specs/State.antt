@@ -19,7 +19,7 @@ no-sample = 1
 abbrev pub blank : State
 blank = record { wp = 0; pc = 0; st = 0; flags = 0; psi = Own.blank }
 
--- A state is well formed if WP and PC are even, flags ≤ 3, and the PSI's fields are in order.
+-- well formed: even WP and PC, two flags and no more, and the PSI's fields in order
 unfoldable pub well-formed : State → Bool
 well-formed s =
     eqb (s .wp % 2) 0

@@ -44,7 +44,7 @@ enter vector f = do
   r ← registers
   set to-flags (put idle false (r .flags))
 
--- No entry: clear no-sample; if idle, nothing more; else execute one instruction.
+-- A step without an entry: requests are sampled again from the next one on; a machine that is not idle executes an instruction.
 unfoldable pub proceed : Micro Kind
 proceed = do
   r ← registers
@@ -76,7 +76,7 @@ boundary load = enter (vector load) (entry-status load) >> done was-load
 boundary (level k) = enter (vector (level k)) (entry-status (level k)) >> done (was-level k)
 boundary none = proceed
 
--- The clock advances by the record's cycles.
+-- the machine once its clock has advanced
 abbrev pub clocked : ℕ → Machine → Machine
 clocked cycles m = record { state = with-psi (Clock.advanced cycles (m .state .psi)) (m .state); memory = m .memory }
 

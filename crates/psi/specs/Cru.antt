@@ -14,7 +14,7 @@ use Rattle.psi.specs.Pins.{port-level, request-level, request}
 abbrev pub bit-numbers : ℕ
 bit-numbers = 2048
 
--- The bit number is R12 divided by 2, modulo 2048.
+-- the bit that a number in R12 points at: R12 counts in halves of a bit
 unfoldable pub first-bit : CruBase → CruBit
 first-bit b = record { 0 = b .0 / 2 % bit-numbers }
 
@@ -22,7 +22,7 @@ first-bit b = record { 0 = b .0 / 2 % bit-numbers }
 unfoldable pub beyond : CruBit → ℕ → CruBit
 beyond b d = record { 0 = (b .0 + d) % bit-numbers }
 
--- SBO, SBZ and TB add a signed 8-bit displacement of bits.
+-- the bit that lies a signed displacement of 8 bits away, for SBO, SBZ and TB
 unfoldable pub displaced : CruBit → ℕ → CruBit
 displaced b d = beyond b (signed-byte bit-numbers d)
 

@@ -14,7 +14,7 @@ parted r = record { levels = r % 2 ^ 22; cycles = r / 2 ^ 22 }
 unfoldable pub port-weight : ℕ → ℕ
 port-weight p = if ltb p 7 then 15 + p else (21 - p)
 
--- A pin whose port is an output has the latch's level, else the recorded one.
+-- the level at port p's pin: an output drives its latch, an input shows the record
 unfoldable pub port-level : Psi → ℕ → ℕ → Bool
 port-level s v p = if bit p (s .direction) then bit p (s .latch) else bit (port-weight p) v
 
@@ -22,7 +22,7 @@ port-level s v p = if bit p (s .direction) then bit p (s .latch) else bit (port-
 unfoldable pub request-level : Psi → ℕ → ℕ → Bool
 request-level s v n = if ltb n 7 then bit (n - 1) v else port-level s v (22 - n)
 
--- Request n is active when pin INTn is low; request 3, while the load is not 0, is the clock's pending flag instead.
+-- Requests are active low. A clock with a load takes over request 3: its pending flag stands for the pin.
 unfoldable pub active : Psi → ℕ → ℕ → Bool
 active s v n =
     if (eqb n 3 && not (eqb (s .load) 0))
@@ -42,6 +42,6 @@ lowest s v (suc k) n = if requested s v n then n else lowest s v k (n + 1)
 unfoldable pub request : Psi → ℕ → ℕ
 request s v = lowest s v 15 1
 
--- The code is that request's number modulo 8, and 7 if there is none.
+-- what the CPU sees of it on its three lines; all ones where there is no request
 unfoldable pub code : Psi → ℕ → ℕ
 code s v = if eqb (request s v) 0 then 7 else (request s v % 8)

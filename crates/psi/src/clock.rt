@@ -29,7 +29,7 @@ impl Psi {
         if self.counted() == 0 { 1 } else { self.pending }
     }
 
-    // While control is 0 the read register follows the decrementer.
+    // In interrupt mode the read register shows the decrementer.
     fn followed(self) -> Psi
         ensures { λ r. ⌜ r ≡ Clock.followed self ⌝ }
     {

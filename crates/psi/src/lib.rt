@@ -32,6 +32,8 @@ impl Psi {
     pub const CLOCK_LARGEST: u16 = (1 << Psi::CLOCK_BITS) - 1;
     // Cycles of one tick.
     pub const TICK_CYCLES: u16 = 64;
+    // The code that stands for no request.
+    pub const NO_REQUEST: u16 = 7;
     // The words that hold a PSI in an image, one a field.
     pub const WORDS: usize = 8;
 

@@ -76,11 +76,11 @@ impl Psi {
         0
     }
 
-    // The code: that request's number modulo 8, and 7 if there is none.
+    // What the CPU sees of it on its three lines.
     pub fn code(self, levels: u32) -> u16
         ensures { λ r. ⌜ r ≡ Pins.code self levels ⌝ }
     {
         let n = self.request(levels);
-        if n == 0 { 7 } else { n % 8 }
+        if n == 0 { Psi::NO_REQUEST } else { n % 8 }
     }
 }

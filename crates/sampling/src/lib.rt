@@ -5,11 +5,10 @@ ghost use Rattle.machine.specs.State.{registers};
 ghost use Rattle.machine.specs.Step as Step;
 use machine::Signal;
 use machine::State;
+use psi::Psi;
 
-// The request codes: below LOAD's they are reset's, above it the levels' from 1 on, and the last one is no request's.
+// LOAD's request code: those below it are reset's, those above it the levels' from 1 on, up to the code of no request.
 const LOAD: u16 = 2;
-
-const NO_REQUEST: u16 = 7;
 
 // LOAD's vector; the vectors of reset and of the levels go up from 0, two words each.
 const LOAD_VECTOR: u16 = 0x3FFC;
@@ -26,7 +25,7 @@ pub fn signal(code: u16) -> Signal
     if code == LOAD {
         return Signal::Load;
     }
-    if code < NO_REQUEST {
+    if code < Psi::NO_REQUEST {
         return Signal::Level(code - LOAD);
     }
     Signal::Nothing
