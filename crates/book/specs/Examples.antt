@@ -3,11 +3,8 @@ use Prim.Native.Nat.{ℕ, _-_, _^_}
 use mathlib.Core.Path.{_≡_}
 use mathlib.Core.List.{List, [], _∷_}
 use Rattle.machine.specs.State.{Machine, at}
-use Rattle.machine.specs.Cases.{Poke, poked, never, quiet, zeros}
+use Rattle.machine.specs.Cases.{word, poked, never, quiet, zeros}
 use Rattle.book.specs.Book.{Note, Book, Call, all-moments, book-after}
-
-abbrev word : ℕ → ℕ → Poke
-word a x = record { at = a; word = x }
 
 -- the vectors, two words each, and instructions at addresses of their own
 abbrev memory : List ℕ
