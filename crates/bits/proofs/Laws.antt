@@ -3,7 +3,7 @@
 -- and a bit below does not see what is added from n on.
 use Prim.Native.Nat.{ℕ, zero, suc, _+_, _-_, _*_, _/_, _%_, _^_, _<_, _≤_}
 use mathlib.Core.Path.{_≡_, refl, sym, ap, subst, _∙_}
-use mathlib.Core.Bool.{Bool, true, false}
+use mathlib.Core.Bool.{Bool, true, false, _&&_}
 use native.Mathlib.Omega.{arith}
 use native.Mathlib.Nat.{div-one, mod-one, mod-eq-of-lt, mod-lt, mod-eq-sub-div-mul, div-mul-le-self, div-add-mod', add-mul-div-right, pow-suc}
 use native.Mathlib.Numerals.{one-add, add-one}
@@ -14,6 +14,11 @@ use lib.Arith.{digits-div}
 use mir.Val.{boolByte}
 use Rattle.bits.specs.Bits.{one-if, bit, put}
 use Rattle.bits.specs.Laws.{Put-read, Put-others, Put-fits}
+
+-- both parts of a true conjunction are true
+pub conjuncts : (a b : Bool) → (a && b) ≡ true → (a ≡ true) × (b ≡ true)
+conjuncts true b e = (refl, e)
+conjuncts false b e = (e, (cc))
 
 pub one-if-byte : (b : Bool) → boolByte b ≡ one-if b
 one-if-byte true = refl

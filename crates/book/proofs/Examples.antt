@@ -6,6 +6,6 @@ use Rattle.book.specs.Book as Book
 use Rattle.book.specs.Examples as Examples
 
 pub examples-hold : Examples.Examples-hold
-unfolding Cases.every Perform.accesses Perform.fetches Perform.written Book.turn Book.step-accesses Book.note Book.event-of Book.event Book.moment Book.moments Book.book-after Book.call-moments Examples.table Examples.left Examples.Hold
+unfolding Cases.every Perform.accesses Perform.fetches Perform.written Book.turn Book.step-accesses Book.note Book.event-of Book.event Book.moment Book.moments Book.book-after Book.call-moments Book.call-machine Book.all-moments Examples.table Examples.left Examples.Hold
 examples-hold =
-    (refl, (refl, (refl, (refl, (refl, (refl, (refl, (refl, (refl, (refl, (refl, (refl, (refl, (refl, (refl, tt)))))))))))))))
+    (refl, (refl, (refl, (refl, (refl, (refl, (refl, (refl, (refl, (refl, (refl, (refl, (refl, (refl, (refl, (refl, tt))))))))))))))))

@@ -1,13 +1,10 @@
--- Examples of the book's rules, as one table under one claim: a machine, its book, a call, and the book after it, written out.
+-- Examples of the book's rules, as one table under one claim: a machine, its book, calls, and the book after them, written out.
 use Prim.Native.Nat.{ℕ, _-_, _^_}
 use mathlib.Core.Path.{_≡_}
 use mathlib.Core.List.{List, [], _∷_}
 use Rattle.machine.specs.State.{Machine, at}
-use Rattle.machine.specs.Cases.{Poke, poked, never, quiet, zeros}
-use Rattle.book.specs.Book.{Note, Book, Call, call-moments, book-after}
-
-abbrev word : ℕ → ℕ → Poke
-word a x = record { at = a; word = x }
+use Rattle.machine.specs.Cases.{word, poked, never, quiet, zeros}
+use Rattle.book.specs.Book.{Note, Book, Call, all-moments, book-after}
 
 -- the vectors, two words each, and instructions at addresses of their own
 abbrev memory : List ℕ
@@ -67,15 +64,16 @@ earlier = record { workspace = 0x360; wp = 0x380; pc = 0x700; st = 0x2002 }
 abbrev two : Book
 two = latest ∷ earlier ∷ []
 
--- a row: where the machine is, its book, a call, and the book after it
+-- a row: where the machine is, its book, calls one after the other, and the book after them
 pub record Row : Type 0 where
   pub pc : ℕ
   pub book : Book
-  pub call : Call
+  pub calls : List Call
   pub after : Book
 
+-- a row with one call
 abbrev row : ℕ → Book → Call → Book → Row
-row pc book c after = record { pc = pc; book = book; call = c; after = after }
+row pc book c after = record { pc = pc; book = book; calls = c ∷ []; after = after }
 
 unfoldable pub table : List Row
 table =
@@ -100,11 +98,18 @@ table =
     -- BLWP, RTWP and XOP in one call; the same one, stopped before its last step
     ∷ row 0x120 two (call 3 (quiet 0 ∷ quiet 0 ∷ quiet 0 ∷ [])) (noted 0x260 0x126 ∷ two)
     ∷ row 0x120 two (record { records = quiet 0 ∷ quiet 0 ∷ quiet 0 ∷ []; steps = 3; stop = 0x124 }) two
+    -- BLWP in a call, a refused call whose pins would have it reset, RTWP in a third call
+    ∷ record {
+      pc = 0x120;
+      book = two;
+      calls = call 1 (quiet 0 ∷ []) ∷ call 2 (low 1 ∷ []) ∷ call 1 (quiet 0 ∷ []) ∷ [];
+      after = two;
+    }
     ∷ []
 
--- the book after a row's call
+-- the book after a row's calls
 unfoldable pub left : Row → Book
-left r = book-after (r .book) (call-moments (from (r .pc)) (r .book) (r .call))
+left r = book-after (r .book) (all-moments (from (r .pc)) (r .book) (r .calls))
 
 unfoldable pub Hold : List Row → Type 0
 Hold [] = Unit

@@ -9,9 +9,9 @@ use Rattle.machine.specs.State.{Machine}
 use Rattle.machine.specs.Micro.{Micro, done, _>>=_}
 use Rattle.machine.specs.Perform.{perform, accesses, fetches}
 use Rattle.machine.specs.Laws.{Words}
-use Rattle.machine.proofs.Bind.{perform-bind, accesses-bind}
+use Rattle.machine.proofs.Bind.{perform-bind, accesses-bind, fetches-append}
 use Rattle.machine.proofs.Laws.{keeps-the-length, keeps-words}
-use Rattle.book_claim.proofs.Steady.{Steady, Held, held, fetches-append}
+use Rattle.book_claim.proofs.Steady.{Steady, Held, held}
 
 -- the memory is installed and every field has 16 bits
 pub record Fit (m : Machine) : Type 0 where

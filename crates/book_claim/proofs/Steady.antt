@@ -3,7 +3,6 @@
 use Prim.Native.Nat.{ℕ, _+_, _*_, _%_, _<_}
 use mathlib.Core.Path.{_≡_, refl}
 use mathlib.Core.Bool.{Bool, true, false}
-use mathlib.Core.List.{List, [], _∷_, _++_}
 use native.Mathlib.Omega.{arith}
 use lib.Dec.{eqb}
 use Rattle.bits.specs.Bits.{if_then_else_}
@@ -16,7 +15,7 @@ use Rattle.machine.specs.declared.State.{State}
 use Rattle.machine.specs.State.{Registers, Machine}
 use Rattle.machine.specs.State as Own
 use Rattle.machine.specs.Micro.{Micro, done, look, assign, fetch, read, write, sense, drive, to-wp, to-pc, to-st, to-flags, _>>=_, registers, fetched, load, store}
-use Rattle.machine.specs.Perform.{perform, accesses, Access, was-fetched, was-read, was-written, was-sensed, was-driven, fetches, after-assign, after-fetch, after-write, after-sense, after-drive}
+use Rattle.machine.specs.Perform.{perform, accesses, fetches, after-assign, after-fetch, after-write, after-sense, after-drive}
 use Rattle.machine.specs.Operands.{register, set-register, indexed, stepped, operand}
 
 -- WP, PC and ST are never loaded
@@ -79,16 +78,6 @@ held v (sense b k) m q h =
 held v (drive b x k) m q h =
     let r = held v k (after-drive b x m) q h in
     record { wp = r .wp; pc = r .pc; st = r .st }
-
--- the accesses of a microprogram and of what follows it
-pub fetches-append : (a b : List Access) → fetches (a ++ b) ≡ fetches a + fetches b
-unfolding fetches
-fetches-append [] b = omega arith
-fetches-append (was-fetched a ∷ l) b = omega (arith, fetches-append l b)
-fetches-append (was-read w a ∷ l) b = fetches-append l b
-fetches-append (was-written w a x ∷ l) b = fetches-append l b
-fetches-append (was-sensed c ∷ l) b = fetches-append l b
-fetches-append (was-driven c x ∷ l) b = fetches-append l b
 
 -- each access by itself, and the address of an operand
 

@@ -5,7 +5,7 @@ use mathlib.Core.Bool.{false}
 use Rattle.bits.specs.Bits.{bit, put}
 use Rattle.psi.specs.declared.Record.{Record}
 use Rattle.psi.specs.Pins.{parted, code}
-use Rattle.psi.proofs.Kept.{kept-fits, kept-formed}
+use Rattle.psi.proofs.Kept.{kept-fits}
 use Rattle.machine.specs.declared.Deed.the-variants.{Ordinary, Unassigned, Switched, Returned}
 use Rattle.machine.specs.State.{Machine, idle, no-sample}
 use Rattle.machine.specs.State as Own
@@ -19,6 +19,7 @@ use Rattle.machine.specs.declared.Signal.{Signal}
 use Rattle.machine.specs.declared.Signal.the-variants.{Reset as reset, Load as load, Nothing as none, Level as level}
 use Rattle.machine.specs.Step.{signal, admitted, enter, proceed, boundary, clocked, stepping, step}
 use Rattle.machine.proofs.Laws.{Form, keeps-form}
+use Rattle.run_rules.proofs.Laws.{clocked-form}
 use Rattle.book.specs.Book.{step-accesses}
 use Rattle.book_claim.specs.Claim.{Stands}
 use Rattle.book_claim.proofs.Steady.{Steady, registers-steady, fetched-steady}
@@ -138,11 +139,5 @@ step-sound word m h =
     let start : Machine = clocked (p .cycles) m in
     record {
       fit = fit-kept (p .levels) (stepping (p .levels) start) start (clocked-fit (p .cycles) m (h .fit));
-      form =
-          keeps-form (p .levels) (stepping (p .levels) start) start
-          (record {
-            even = record { wp = h .form .even .wp; pc = h .form .even .pc };
-            flags = h .form .flags;
-            psi = kept-formed .cycles (p .cycles) (h .form .psi);
-          });
+      form = keeps-form (p .levels) (stepping (p .levels) start) start (clocked-form (p .cycles) m (h .form));
     }

@@ -4,12 +4,9 @@ use Prim.Native.Nat.{ℕ, _-_, _^_}
 use mathlib.Core.Path.{_≡_}
 use mathlib.Core.List.{List, [], _∷_}
 use Rattle.machine.specs.State.{Machine, at}
-use Rattle.machine.specs.Cases.{Poke, poked, never, quiet, zeros}
+use Rattle.machine.specs.Cases.{word, poked, never, quiet, zeros}
 use Rattle.book.specs.Book.{Note, Book, turn, Moment, Call, all-moments}
 use Rattle.book_claim.specs.Claim.{Each, Respected}
-
-abbrev word : ℕ → ℕ → Poke
-word a x = record { at = a; word = x }
 
 -- WP 0300h, PC 0100h, mask 4; request 3 is enabled
 abbrev pub start : Machine

@@ -12,14 +12,13 @@ use lib.Dec.{eqb}
 use lib.ListN.{length, drop, length-drop}
 use Rattle.memory.specs.Memory.{size}
 use Rattle.psi.proofs.Cases.{either-way}
-use Rattle.psi.proofs.Kept.{kept-formed}
 use Rattle.psi.specs.Pins.{parted}
 use Rattle.machine.specs.declared.State.{State}
 use Rattle.machine.specs.State.{Machine, at, well-formed}
 use Rattle.machine.specs.declared.Kind.{Kind}
-use Rattle.machine.specs.Step.{clocked, step}
+use Rattle.machine.specs.Step.{step}
 use Rattle.machine.specs.Run.{Ran, at-once, one-more, runs, run-refusal, RunResult, run}
-use Rattle.run_rules.proofs.Laws.{missed-at-most, stopped, goes-on, accepted}
+use Rattle.run_rules.proofs.Laws.{clocked-form, missed-at-most, stopped, goes-on, accepted}
 use Rattle.machine.proofs.Laws.{form, formed, keeps-form, keeps-the-length}
 use Rattle.claims.specs.Runs.{followed, Runs-in-parts, Refused-runs, Accepted-exactly, Steps-at-most, Stops-exactly, Odd-never-stops}
 
@@ -28,21 +27,12 @@ record Fit (m : Machine) : Type 0 where
   sized : length (m .memory) ≡ size
   formed : well-formed (m .state) ≡ true
 
-clocked-fit : (cycles : ℕ) (m : Machine) → Fit m → Fit (clocked cycles m)
-clocked-fit cycles m f =
-    let g = form (m .state) (f .formed) in
-    record {
-      sized = f .sized;
-      formed = formed _ (record { even = record { wp = g .even .wp; pc = g .even .pc }; flags = g .flags; psi = kept-formed .cycles cycles (g .psi) });
-    }
-
 step-fit : (word : ℕ) (m : Machine) → Fit m → Fit (step word m .machine)
 unfolding step
 step-fit word m f =
-    let c = clocked-fit (parted word .cycles) m f in
     record {
-      sized = keeps-the-length _ _ _ ∙ c .sized;
-      formed = formed _ (keeps-form _ _ _ (form _ (c .formed)));
+      sized = keeps-the-length _ _ _ ∙ f .sized;
+      formed = formed _ (keeps-form _ _ _ (clocked-form (parted word .cycles) m (form _ (f .formed))));
     }
 
 module _ (stop : ℕ) where

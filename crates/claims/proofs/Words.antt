@@ -1,11 +1,10 @@
 -- A microprogram followed by another fetches the words of the first and then those of the second; only `fetched` fetches, and
 -- it stands in the indexed operand and in the forms with an immediate word.
 use Prim.Native.Nat.{ℕ, zero, suc, _+_}
-use mathlib.Core.Path.{_≡_, refl, sym, ap, _∙_, fun-ext}
+use mathlib.Core.Path.{_≡_, refl, ap, _∙_, fun-ext}
 use mathlib.Core.Bool.{Bool, true, false}
-use mathlib.Core.List.{List, [], _∷_, _++_}
 use native.Mathlib.Omega.{arith}
-use native.Mathlib.Nat.{zero-add, suc-add, add-zero}
+use native.Mathlib.Nat.{zero-add, add-zero}
 use borrow.Author.Tests.{eqb-true}
 use lib.Dec.{eqb, leb}
 use Rattle.bits.specs.Bits.{if_then_else_, bit}
@@ -39,21 +38,12 @@ use Rattle.alu.specs.declared.Pair.{Pair}
 use Rattle.alu.specs.Status.{jumps}
 use Rattle.machine.specs.State.{Machine}
 use Rattle.machine.specs.Micro.{Micro, Target, done, _>>=_, _>>_, registers, set, fetched, load, store, sensed, driven}
-use Rattle.machine.specs.Perform.{perform, performed, accesses, fetches, Access, was-fetched, was-read, was-written, was-sensed, was-driven}
+use Rattle.machine.specs.Perform.{perform, performed, accesses, fetches}
 use Rattle.machine.specs.Operands.{register, set-register, indexed, stepped, operand}
 use Rattle.machine.specs.Groups as G
 use Rattle.machine.specs.Execute.{instruction, again, execute}
-use Rattle.machine.proofs.Bind.{perform-bind, accesses-bind}
+use Rattle.machine.proofs.Bind.{perform-bind, accesses-bind, fetches-append}
 use Rattle.claims.specs.Words.{words, counted, Announced-words-are-fetched, executed, Executed-words-are-fetched}
-
-fetches-append : (a b : List Access) → fetches (a ++ b) ≡ fetches a + fetches b
-unfolding fetches
-fetches-append [] b = sym (zero-add _)
-fetches-append (was-fetched x ∷ a) b = ap suc (fetches-append a b) ∙ sym (suc-add _ _)
-fetches-append (was-read w x ∷ a) b = fetches-append a b
-fetches-append (was-written w x y ∷ a) b = fetches-append a b
-fetches-append (was-sensed x ∷ a) b = fetches-append a b
-fetches-append (was-driven x y ∷ a) b = fetches-append a b
 
 words-bind :
     {A B : Type 0} (v : ℕ) (p : Micro A) (f : A → Micro B) (m : Machine)

@@ -7,6 +7,7 @@ use Rattle.bits.specs.Bits.{bit}
 use Rattle.psi.specs.declared.Psi.{Psi}
 use Rattle.psi.specs.Clock.{advanced}
 use Rattle.psi.specs.Pins.{parted, requested}
+use Rattle.psi.specs.RequestLaws.{NoneBelow}
 use Rattle.machine.specs.State.{Machine, no-sample}
 use Rattle.machine.specs.Perform.{perform}
 use Rattle.machine.specs.declared.Signal.{Signal}
@@ -20,7 +21,7 @@ pub record Lowest (s : Psi) (v n : ℕ) : Type 0 where
   pub from-1 : 0 < n
   pub to-15 : n < 16
   pub is-requested : requested s v n ≡ true
-  pub none-lower : (k : ℕ) → 0 < k → k < n → requested s v k ≡ false
+  pub none-lower : NoneBelow s v n
 
 -- the same at a step with a pin record: after the clock has advanced, at the record's levels
 abbrev pub Lowest-at : ℕ → Machine → ℕ → Type 0

@@ -8,6 +8,7 @@ use native.Mathlib.Nat.{add-zero}
 use borrow.Author.Tests.{eq-eqb, eqb-true}
 use lib.Dec.{eqb}
 use Rattle.bits.specs.Bits.{if_then_else_}
+use Rattle.bits.proofs.Laws.{conjuncts}
 use Rattle.machine.specs.State.{well-formed}
 use Rattle.image_blocks.specs.Image as Image
 use Rattle.image.specs.declared.Fault.{Fault}
@@ -19,10 +20,6 @@ use Rattle.image_claims.specs.Claims.{Sound-block}
 picked : (b : Bool) (x y : Fault) → (y .number ≡ 0 → b ≡ true) → (if b then x else y) .number ≡ 0 → (b ≡ true) × (x .number ≡ 0)
 picked true x y c h = (refl, h)
 picked false x y c h = absurd (true≢false (sym (c h)))
-
-pub both : (a b : Bool) → (a && b) ≡ true → (a ≡ true) × (b ≡ true)
-both true b h = (refl, h)
-both false b h = absurd (true≢false (sym h))
 
 -- no fault among k blocks: each is in order
 pub each-right : (img : List ℕ) (k i d : ℕ) → first-fault img k i .number ≡ 0 → d < k → block-fault img (i + d) ≡ 0
@@ -62,8 +59,8 @@ sound img h =
     let last : ℕ = if not second then 9 else 0 in
     let one = passed (λ n. n) first 8 last (λ e. absurd (omega arith)) h in
     let two = passed (λ n. n) second 9 0 (λ e. absurd (omega arith)) (one .1) in
-    let words = both (eqb (Image.field-of img 0) Image.format) (eqb (Image.field-of img 1) Image.edition) (one .0) in
-    let rest = both (well-formed (Image.state-of img)) (Image.zeros (Image.filler-of img)) (two .0) in
+    let words = conjuncts (eqb (Image.field-of img 0) Image.format) (eqb (Image.field-of img 1) Image.edition) (one .0) in
+    let rest = conjuncts (well-formed (Image.state-of img)) (Image.zeros (Image.filler-of img)) (two .0) in
     record {
       format = eqb-true (Image.field-of img 0) Image.format (words .0);
       edition = eqb-true (Image.field-of img 1) Image.edition (words .1);

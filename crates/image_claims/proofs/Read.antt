@@ -10,6 +10,7 @@ use borrow.Author.Tests.{eqb-true}
 use lib.Dec.{eqb}
 use lib.ListN.{length, getD, take, drop, replicate, length-take, length-drop, take-append-drop}
 use lib.Seq.{take-all, drop-drop, length-take-le}
+use Rattle.bits.proofs.Laws.{conjuncts}
 use Rattle.memory.specs.Memory.{Bytes}
 use Rattle.machine.specs.declared.State.{State}
 use Rattle.image_blocks.specs.Image.{image-size, psi-of, format, edition, content, words-bytes, fields, word-bytes, word-at, padded, checked, words-sum, zeros, block, image, block-of, content-of, contents-of, memory-of, field-of, state-of, filler-of}
@@ -18,14 +19,14 @@ use Rattle.image_claims.proofs.Lists.{padded-part, joined-same, joined-
 use Rattle.image_claims.proofs.Words.{check-word, words-from, words-back}
 use Rattle.image_blocks.proofs.Parts.{block-at, content-at, content-of-length, contents-length, contents-part, memory-length, zeros-append}
 use Rattle.image_blocks.proofs.Written.{blocks-joined}
-use Rattle.image_claims.proofs.Accepted.{both, right, Sound}
+use Rattle.image_claims.proofs.Accepted.{right, Sound}
 
 -- zeros are all alike
 zeros-are : (l : List ℕ) → zeros l ≡ true → l ≡ replicate (length l) 0
 unfolding zeros
 zeros-are [] h = refl
 zeros-are (x ∷ l) h =
-    let b = both (eqb x 0) (zeros l) h in
+    let b = conjuncts (eqb x 0) (zeros l) h in
     ap₂ _∷_ (eqb-true x 0 (b .0)) (zeros-are l (b .1))
 
 -- a list whose rest is zeros is its front, padded
@@ -96,7 +97,7 @@ module _ (img : List ℕ) (sized : length img ≡ image-size) (bytes : Bytes img
   filler-parts k =
       let rest = drop 28 (content-of img 0) in
       let end = drop 16384 (contents-of img 33 1) in
-      both (zeros rest) (zeros end) (sym (zeros-append rest end) ∙ k .filler)
+      conjuncts (zeros rest) (zeros end) (sym (zeros-append rest end) ∙ k .filler)
 
   content-back : Sound img → (i : ℕ) → i < 34 → content (state-of img) (memory-of img) i ≡ content-of img i
   content-back k zero l = header-back (memory-of img) k (filler-parts k .0)

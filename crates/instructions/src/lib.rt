@@ -1,4 +1,4 @@
-// What each instruction but X does, and what it was.
+// What each instruction does, and what it was. X is answered as with no allowance left, as unassigned: `cpu` executes it.
 ghost use mathlib.Core.Path.{_≡_};
 ghost use Rattle.memory.specs.Memory.{Installed};
 ghost use Rattle.machine.specs.State.{at};
@@ -9,7 +9,6 @@ use machine::Deed;
 use machine::Executed;
 use machine::State;
 
-// What every instruction but X does.
 pub fn perform_instruction(
     bytes: &mut [u8],
     state: State,

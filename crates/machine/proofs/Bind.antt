@@ -1,15 +1,16 @@
 -- A microprogram followed by another does what the first does and then what the second does; so its accesses are the
 -- first's and then the second's. By induction on the first.
-use Prim.Native.Nat.{ℕ}
+use Prim.Native.Nat.{ℕ, _+_}
 use mathlib.Core.Path.{_≡_, refl, ap}
 use mathlib.Core.List.{List, [], _∷_, _++_}
+use native.Mathlib.Omega.{arith}
 use Rattle.memory.specs.declared.Width.the-variants.{Word}
 use Rattle.memory.specs.Memory.{loaded}
 use Rattle.psi.specs.Cru as Cru
 use Rattle.machine.specs.State as State
 use Rattle.machine.specs.State.{Machine}
 use Rattle.machine.specs.Micro.{Micro, done, look, assign, fetch, read, write, sense, drive, _>>=_, registers}
-use Rattle.machine.specs.Perform.{Performed, perform, performed, accesses, Access, was-fetched, was-read, was-written, was-sensed, was-driven, after-assign, after-fetch, after-write, after-sense, after-drive}
+use Rattle.machine.specs.Perform.{perform, performed, accesses, fetches, Access, was-fetched, was-read, was-written, was-sensed, was-driven, after-assign, after-fetch, after-write, after-sense, after-drive}
 
 module _ {A B : Type 0} (v : ℕ) where
   pub perform-bind : (p : Micro A) (f : A → Micro B) (m : Machine)
@@ -35,6 +36,16 @@ module _ {A B : Type 0} (v : ℕ) where
   accesses-bind (write w a x k) f m = ap (was-written w a x ∷_) (accesses-bind k f (after-write w a x m))
   accesses-bind (sense b k) f m = ap (was-sensed b ∷_) (accesses-bind (k (Cru.sensed (m .state .psi) v b .value)) f (after-sense v b m))
   accesses-bind (drive b x k) f m = ap (was-driven b x ∷_) (accesses-bind k f (after-drive b x m))
+
+-- the words fetched in two lists of accesses
+pub fetches-append : (a b : List Access) → fetches (a ++ b) ≡ fetches a + fetches b
+unfolding fetches
+fetches-append [] b = omega arith
+fetches-append (was-fetched a ∷ l) b = omega (arith, fetches-append l b)
+fetches-append (was-read w a ∷ l) b = fetches-append l b
+fetches-append (was-written w a x ∷ l) b = fetches-append l b
+fetches-append (was-sensed c ∷ l) b = fetches-append l b
+fetches-append (was-driven c x ∷ l) b = fetches-append l b
 
 -- nothing more, and looking at the registers
 module _ (v : ℕ) where

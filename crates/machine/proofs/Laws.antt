@@ -2,9 +2,10 @@
 -- a fetch change WP and PC.
 use Prim.Native.Nat.{ℕ, _≤_}
 use mathlib.Core.Path.{_≡_, refl, sym, _∙_}
-use mathlib.Core.Bool.{Bool, true, false, _&&_, _||_}
+use mathlib.Core.Bool.{Bool, true, false, _||_}
 use native.Mathlib.Omega.{arith}
 use borrow.Author.Tests.{eqb-true, leb-true, eq-eqb, le-leb}
+use Rattle.bits.proofs.Laws.{conjuncts}
 use Rattle.memory.specs.declared.Width.the-variants.{Word}
 use Rattle.memory.specs.Memory.{loaded, covers, touched}
 use Rattle.memory.proofs.Laws.{stored-length, stored-bytes, stored-frame, covers-append}
@@ -111,10 +112,6 @@ pub record Form (s : State) : Type 0 where
   pub even : Even s
   pub flags : s .flags ≤ 3
   pub psi : Formed.well-formed (s .psi) ≡ true
-
-conjuncts : (a b : Bool) → (a && b) ≡ true → (a ≡ true) × (b ≡ true)
-conjuncts true b e = (refl, e)
-conjuncts false b e = (e, (cc))
 
 pub form : (s : State) → well-formed s ≡ true → Form s
 unfolding well-formed

@@ -1,4 +1,4 @@
--- Cases: a start, pin records, and what the run must leave. A case is a number computed from the definitions.
+-- Cases: a start, pin records, and what the run must leave. Whether a case holds is a truth value computed from the definitions.
 use Prim.Native.Nat.{ℕ, _+_, _*_, _^_, _-_}
 use mathlib.Core.Bool.{Bool, true, false, _&&_}
 use mathlib.Core.List.{List, [], _∷_}
@@ -18,6 +18,9 @@ use Rattle.machine.specs.Rules as Rules
 pub record Poke : Type 0 where
   pub at : ℕ
   pub word : ℕ
+
+abbrev pub word : ℕ → ℕ → Poke
+word a x = record { at = a; word = x }
 
 -- a memory with these words put into it, the last one first
 unfoldable pub poked : List Poke → List ℕ → List ℕ

@@ -1,5 +1,5 @@
 -- Document 01's marked cases P1 to P12, as one table under one claim.
-use Prim.Native.Nat.{ℕ, _+_, _-_, _*_, _^_}
+use Prim.Native.Nat.{ℕ, _-_, _^_}
 use mathlib.Core.List.{List, [], _∷_}
 use lib.Dec.{T}
 use Rattle.psi.specs.declared.Psi.{Psi}
@@ -7,10 +7,7 @@ use Rattle.psi.specs.Psi.{blank, with-pending}
 use Rattle.psi.specs.Clock.{advanced}
 use Rattle.machine.specs.declared.State.{State}
 use Rattle.machine.specs.declared.RunAnswer.{RunAnswer}
-use Rattle.machine.specs.Cases.{Poke, poked, zeros, Case, replayed, clocked, coded, every, quiet}
-
-abbrev word : ℕ → ℕ → Poke
-word a x = record { at = a; word = x }
+use Rattle.machine.specs.Cases.{Poke, word, poked, zeros, Case, replayed, clocked, coded, every, quiet}
 
 -- WP 0300h, PC 0100h: Rn is at 0300h + 2n
 abbrev start : ℕ → ℕ → Psi → State

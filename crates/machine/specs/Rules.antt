@@ -1,5 +1,5 @@
 -- The rules that a case computes with, by the module that they stand in. To unfold one of these names is to unfold all that its line
--- names; `all` is every rule of the machine.
+-- names; `all` is every rule that a run computes with.
 use lib.Count as Count
 use Rattle.bits.specs.Bits as Bits
 use Rattle.bits.specs.Logic as Logic
@@ -78,9 +78,9 @@ unfoldable pub products : Unit {0}
 unfolding Products.product Products.divided
 products = tt
 
-unfoldable pub accesses : Unit {0}
+unfoldable pub microprograms : Unit {0}
 unfolding Micro.registers Micro.set Micro.fetched Micro.load Micro.store Micro.sensed Micro.driven Perform.perform
-accesses = tt
+microprograms = tt
 
 unfoldable pub operands : Unit {0}
 unfolding Operands.register Operands.set-register Operands.indexed Operands.stepped Operands.operand
@@ -135,5 +135,5 @@ unfolding status sums shifts products
 alu = tt
 
 unfoldable pub all : Unit {0}
-unfolding bits logic memory psi operations more-operations words alu accesses operands instructions steps runs
+unfolding bits logic memory psi operations more-operations words alu microprograms operands instructions steps runs
 all = tt

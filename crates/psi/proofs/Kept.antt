@@ -2,7 +2,7 @@
 -- analysis is made once, for both properties.
 use Prim.Native.Nat.{ℕ, zero, suc, _+_, _-_, _/_, _%_, _<_, _≤_}
 use mathlib.Core.Path.{_≡_, refl, sym, _∙_}
-use mathlib.Core.Bool.{Bool, true, false, _&&_, _||_}
+use mathlib.Core.Bool.{Bool, true, false, _||_}
 use native.Mathlib.Omega.{arith}
 use lib.Dec.{eqb, ltb}
 use borrow.Author.Tests.{eqb-true, eqb-false, ltb-true, leb-true, le-leb, lt-ltb, eq-eqb}
@@ -16,7 +16,7 @@ use Rattle.psi.specs.Cru.{controlled, masked, timed, latched, sensed, dr
 use Rattle.psi.specs.Formed.{well-formed}
 use Rattle.psi.specs.Kept.{Fits16, Kept, KeptFormed, KeptFits}
 use Rattle.psi.proofs.Cases.{either-way}
-use Rattle.bits.proofs.Laws.{put-fits, put-read, put-others}
+use Rattle.bits.proofs.Laws.{conjuncts, put-fits, put-read, put-others}
 use Rattle.psi.proofs.Put.{without-put}
 
 -- a property that each change of fields keeps
@@ -145,10 +145,6 @@ record Numbers (p : Psi) : Type 0 where
 record Form (p : Psi) : Type 0 where
   numbers : Numbers p
   follows : control p ≡ false → p .reading ≡ p .decrementer
-
-conjuncts : (a b : Bool) → (a && b) ≡ true → (a ≡ true) × (b ≡ true)
-conjuncts true b e = (refl, e)
-conjuncts false b e = (e, (cc))
 
 other : (a b : Bool) → (a || b) ≡ true → a ≡ false → b ≡ true
 other true b e f = cc

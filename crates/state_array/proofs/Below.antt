@@ -1,24 +1,21 @@
 -- A list whose numbers fit 16 bits, one after the other: each number is below 65536.
 use Prim.Native.Nat.{ℕ, zero, suc, _+_, _<_}
-use mathlib.Core.Path.{_≡_, refl, sym}
-use mathlib.Core.Bool.{Bool, true, false, _&&_, true≢false}
+use mathlib.Core.Path.{_≡_}
+use mathlib.Core.Bool.{true, _&&_}
 use mathlib.Core.List.{List, [], _∷_}
 use native.Mathlib.Omega.{arith}
 use borrow.Author.Tests.{ltb-true}
 use lib.ListN.{length, getD, drop}
 use lib.Seq.{drop-cons}
 use lib.Dec.{ltb}
+use Rattle.bits.proofs.Laws.{conjuncts}
 use Rattle.state_array.specs.Arrays.{fits}
-
-both : (a b : Bool) → (a && b) ≡ true → (a ≡ true) × (b ≡ true)
-both true b h = (refl, h)
-both false b h = absurd (true≢false (sym h))
 
 pub fit-at : (w : List ℕ) (i : ℕ) → fits w ≡ true → getD w i 0 < 65536
 unfolding fits
 fit-at [] i h = omega arith
-fit-at (x ∷ w) zero h = ltb-true x 65536 (both (ltb x 65536) (fits w) h .0)
-fit-at (x ∷ w) (suc i) h = fit-at w i (both (ltb x 65536) (fits w) h .1)
+fit-at (x ∷ w) zero h = ltb-true x 65536 (conjuncts (ltb x 65536) (fits w) h .0)
+fit-at (x ∷ w) (suc i) h = fit-at w i (conjuncts (ltb x 65536) (fits w) h .1)
 
 -- the number at a place, and the numbers after it
 pub next : (w : List ℕ) (i : ℕ) → i < length w → fits (drop i w) ≡ (ltb (getD w i 0) 65536 && fits (drop (i + 1) w))
