@@ -12,6 +12,14 @@ pub const KINDS: u16 = 20;
 
 pub const PLACES: u16 = 3;
 
+// How many blocks an image has.
+const BLOCKS: u16 = image_blocks::BLOCKS as u16;
+
+// The state's fields in block 0, after format and edition: where they begin, and how many they are.
+const STATE_AT: usize = image_blocks::CONTENT + 4;
+
+const STATE_FIELDS: usize = image_blocks::FIELDS - 2;
+
 // The word that starts at a byte.
 fn word_at(image: &[u8], at: usize) -> u16
     requires { ⌜ at + 1 < length (now image) ⌝ }
@@ -87,7 +95,7 @@ fn block_at(seed: &mut u32, place: u16) -> usize
 {
     match place {
         0 => 0,
-        1 => 1 + below(seed, 32) as usize,
+        1 => 1 + below(seed, BLOCKS - 2) as usize,
         _ => image_blocks::LAST,
     }
 }
@@ -112,8 +120,8 @@ fn put_state(image: &mut [u8], state: State)
         psi.pending,
     ];
     let mut n = 0;
-    while n < 12 {
-        put(image, 6 + 2 * n, words[n]);
+    while n < STATE_FIELDS {
+        put(image, STATE_AT + 2 * n, words[n]);
         n += 1;
     }
     mend(image, 0);
@@ -154,7 +162,7 @@ fn damage_block(image: &mut [u8], seed: &mut u32, kind: u16, block: usize)
             change_and_mend(image, seed, block, n)
         }
         _ => {
-            let other = below(seed, 34) as usize;
+            let other = below(seed, BLOCKS) as usize;
             change_and_mend(image, seed, block, 0);
             change(image, seed, other, 7)
         }
