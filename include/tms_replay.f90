@@ -1,6 +1,7 @@
 ! The replay machine for a TMS 9980A with a TMS 9901, for Fortran. What is lent, what the answers mean and what a caller
-! owes stands in tms_replay.h; the names are the same. Compile this file with the program, and link
-! target/staticlib/libtms_replay.a, which `rt staticlib tms_replay` writes.
+! owes stands in tms_replay.h. The names are those of C, but for two arguments: `stop_at` is `stop` there, and
+! `block_number` is `block`. The places of a state's words and of a run's counts are counted from 1, in C from 0. Compile
+! this file with the program, and link target/staticlib/libtms_replay.a, which `rt staticlib tms_replay` writes.
 
 module tms_replay
   use, intrinsic :: iso_c_binding, only: c_int8_t, c_int16_t, c_int32_t, c_int64_t, c_size_t
@@ -16,6 +17,10 @@ module tms_replay
 
   ! A run's counts.
   integer, parameter :: tms_steps = 1, tms_unassigned = 2
+
+  ! The answers.
+  integer(c_int16_t), parameter :: tms_accepted = 0, tms_memory = 1, tms_state = 2, tms_records = 3, tms_image = 5, &
+      tms_block_check = 6, tms_block_number = 7, tms_format = 8, tms_fields = 9
 
   ! Fortran has no unsigned integers: bytes, records and the stop address are given by their bits.
   interface

@@ -13,8 +13,9 @@
    has 2. Nothing is kept after a call, and nothing is allocated.
 
    The contracts of the functions, proved for all arguments, stand in
-   crates/tms_replay/src/exported.rt, and the definitions that they cite in
-   crates/tms_replay/specs/Exported.antt. For Fortran: tms_replay.f90 beside this file. */
+   crates/tms_replay/src/exported.rt, the definitions that they cite in
+   crates/tms_replay/specs/Exported.antt, and what state an array is in
+   crates/state_array/specs/Arrays.antt. For Fortran: tms_replay.f90 beside this file. */
 
 #ifndef TMS_REPLAY_H
 #define TMS_REPLAY_H
@@ -44,7 +45,7 @@ enum {
   TMS_LOAD,        /* the clock's load */
   TMS_DECREMENTER, /* the clock's value */
   TMS_READING,     /* the clock's read register */
-  TMS_PHASE,       /* cycles since the last tick, 0 to 63 */
+  TMS_PHASE,       /* cycles since the last tick or the last write of a load bit, 0 to 63 */
   TMS_PENDING      /* 1: the clock's request is pending */
 };
 

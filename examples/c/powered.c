@@ -69,10 +69,10 @@ int main(void) {
   printf("read %u block %" PRIu32 " pc %04" PRIX32 "\n", read, block, state[TMS_PC]);
 
   /* A memory of another size: the blank state, but a run keeps its own. */
-  read = tms_power_up(memory, sizeof memory - 2, state);
-  printf("power up %u pc %04" PRIX32 "\n", read, state[TMS_PC]);
+  uint16_t answer = tms_power_up(memory, sizeof memory - 2, state);
+  printf("power up %u pc %04" PRIX32 "\n", answer, state[TMS_PC]);
   state[TMS_PC] = 0x0100;
-  printf("run %u pc %04" PRIX32 "\n",
-         tms_run(memory, 0, state, records, 8, 1, 1, counts), state[TMS_PC]);
+  answer = tms_run(memory, 0, state, records, 8, 1, 1, counts);
+  printf("run %u pc %04" PRIX32 "\n", answer, state[TMS_PC]);
   return 0;
 }

@@ -7,19 +7,19 @@ use Rattle.machine.specs.State.{at}
 use Rattle.book.specs.Book.{Call, all-moments}
 use Rattle.book_claim.specs.Claim.{Seen, calls, Each, Respected, Kept, Calls-kept}
 use Rattle.state_array.specs.Arrays.{state-of}
-use Rattle.tms_replay.specs.Exported as Exported
-use Rattle.tms_replay.specs.Exported.{Ran}
+use Rattle.tms_replay.specs.Exported.{Ran, Promised}
 
 -- what was observed of a call: its arguments, and what it answered and left
 pub record Observed : Type 0 where
   pub call : Call
   pub ran : Ran
 
--- each call meets the contract of `tms_run` on the array and the memory that the one before it left
+-- each call keeps what `tms_run` promises, which is the contract of the code's `tms_run`, on the array and the memory that the one before it left
 unfoldable pub Linked : List ℕ → List ℕ → List Observed → Type 0
 Linked w m [] = Unit
 Linked w m (x ∷ xs) =
-    (x .ran ≡ Exported.run m w (x .call .records) (x .call .steps) (x .call .stop)) × Linked (x .ran .state) (x .ran .memory) xs
+    Promised m w (x .call .records) (x .call .steps) (x .call .stop) (x .ran .number) (x .ran .memory) (x .ran .state) (x .ran .counts)
+    × Linked (x .ran .state) (x .ran .memory) xs
 
 -- the same as a call of run: the state of the array, and the two counts
 abbrev pub as-seen : Call → Ran → Seen

@@ -58,12 +58,16 @@ format = 0x9901
 abbrev pub edition : ℕ
 edition = 1
 
--- the fields of block 0: format, edition, WP, PC, ST, flags, and then the PSI's eight
+-- the words that hold a PSI, one a field
+abbrev pub psi-words : ℕ
+psi-words = 8
+
+-- the fields of block 0: format, edition, WP, PC, ST, flags, and then the PSI's
 abbrev pub psi-field : ℕ
 psi-field = 6
 
 abbrev pub field-count : ℕ
-field-count = psi-field + 8
+field-count = psi-field + psi-words
 
 -- The fields of block 0, after format and edition.
 unfoldable pub fields : State → List ℕ

@@ -2,6 +2,8 @@
 mod files;
 mod output;
 
+ghost use Prim.Native.Nat.{_≤_};
+ghost use lib.ListN.{length};
 ghost use Rattle.io.specs.Counts.{Counts};
 use replay_files::line;
 use replay_files::pins;
@@ -47,13 +49,10 @@ fn replay(before: &[u8], file: &[u8], out: &[u8]) {
 }
 
 // The replay of what was read: so many bytes of the two buffers.
-fn replay_read(before: &[u8], n: usize, file: &[u8], m: usize, out: &[u8]) {
-    if n > before.len() {
-        return;
-    }
-    if m > file.len() {
-        return;
-    }
+fn replay_read(before: &[u8], n: usize, file: &[u8], m: usize, out: &[u8])
+    requires { ⌜ n ≤ length (now before) ⌝ }
+    requires { ⌜ m ≤ length (now file) ⌝ }
+{
     replay(&before[..n], &file[..m], out);
 }
 

@@ -63,8 +63,8 @@ fn create(name: &mut [u8], end: usize) -> i32
 {
     let mut i: u8 = 0;
     while i < 100 {
-        name[end - 6] = 48 + i / 10;
-        name[end - 5] = 48 + i % 10;
+        name[end - 6] = b'0' + i / 10;
+        name[end - 5] = b'0' + i % 10;
         let fd = os::create(&name[..end]);
         if fd >= 0 {
             return fd;

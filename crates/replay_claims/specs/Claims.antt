@@ -1,18 +1,25 @@
 -- What is claimed of the program's definition.
-use Prim.Native.Nat.{ℕ}
+use Prim.Native.Nat.{ℕ, _+_, _*_}
 use mathlib.Core.Path.{_≡_}
 use mathlib.Core.List.{List, [], _∷_}
-use lib.ListN.{length}
+use lib.ListN.{length, take}
 use Rattle.memory.specs.Memory.{size}
 use Rattle.psi.specs.Psi as Own
 use Rattle.machine.specs.declared.State.{State}
 use Rattle.machine.specs.Cases.{Poke, poked, zeros}
 use Rattle.image_blocks.specs.Image as Image
+use Rattle.replay_files.specs.Pins as Pins
 use Rattle.replay_call.specs.Replay.{replay, replay-in}
 
 -- The memory that the program lends itself does not matter, but for its size.
 abbrev pub Any-memory : Type 0
 Any-memory = (m image pins after : List ℕ) → length m ≡ size → replay-in m image pins after ≡ replay image pins after
+
+-- Of the image file a byte more than an image matters, of the pin file the words that are taken: the program reads no more of them.
+abbrev pub Starts-of-files : Type 0
+Starts-of-files =
+    (image pins after : List ℕ)
+    → replay (take (Image.image-size + 1) image) (take (4 * (1 + Pins.most)) pins) after ≡ replay image pins after
 
 abbrev word : ℕ → ℕ → Poke
 word a x = record { at = a; word = x }

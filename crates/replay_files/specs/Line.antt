@@ -23,7 +23,7 @@ decimal n = digits 10 (places n) n
 
 -- a digit below 16: `0` to `9`, then `A` to `F`
 unfoldable pub glyph : ℕ → ℕ
-glyph d = cond (ltb d 10) (48 + d) (55 + d)
+glyph d = cond (ltb d 10) (0x30 + d) (0x37 + d)
 
 -- a word as four upper-case hexadecimal digits
 unfoldable pub hex : ℕ → List ℕ
@@ -31,25 +31,25 @@ hex x = glyph (x / 4096 % 16) ∷ glyph (x / 256 % 16) ∷ glyph (x / 16 % 16) �
 
 -- `answer `, ` steps `, ` unassigned `, ` pc `, ` wp `, ` st ` and the line feed
 abbrev pub answer-label : List ℕ
-answer-label = 97 ∷ 110 ∷ 115 ∷ 119 ∷ 101 ∷ 114 ∷ 32 ∷ []
+answer-label = 0x61 ∷ 0x6E ∷ 0x73 ∷ 0x77 ∷ 0x65 ∷ 0x72 ∷ 0x20 ∷ []
 
 abbrev pub steps-label : List ℕ
-steps-label = 32 ∷ 115 ∷ 116 ∷ 101 ∷ 112 ∷ 115 ∷ 32 ∷ []
+steps-label = 0x20 ∷ 0x73 ∷ 0x74 ∷ 0x65 ∷ 0x70 ∷ 0x73 ∷ 0x20 ∷ []
 
 abbrev pub unassigned-label : List ℕ
-unassigned-label = 32 ∷ 117 ∷ 110 ∷ 97 ∷ 115 ∷ 115 ∷ 105 ∷ 103 ∷ 110 ∷ 101 ∷ 100 ∷ 32 ∷ []
+unassigned-label = 0x20 ∷ 0x75 ∷ 0x6E ∷ 0x61 ∷ 0x73 ∷ 0x73 ∷ 0x69 ∷ 0x67 ∷ 0x6E ∷ 0x65 ∷ 0x64 ∷ 0x20 ∷ []
 
 abbrev pub pc-label : List ℕ
-pc-label = 32 ∷ 112 ∷ 99 ∷ 32 ∷ []
+pc-label = 0x20 ∷ 0x70 ∷ 0x63 ∷ 0x20 ∷ []
 
 abbrev pub wp-label : List ℕ
-wp-label = 32 ∷ 119 ∷ 112 ∷ 32 ∷ []
+wp-label = 0x20 ∷ 0x77 ∷ 0x70 ∷ 0x20 ∷ []
 
 abbrev pub st-label : List ℕ
-st-label = 32 ∷ 115 ∷ 116 ∷ 32 ∷ []
+st-label = 0x20 ∷ 0x73 ∷ 0x74 ∷ 0x20 ∷ []
 
 abbrev pub line-feed : List ℕ
-line-feed = 10 ∷ []
+line-feed = 0x0A ∷ []
 
 -- the first half: the answer's number, the steps done and the unassigned words among them, in decimal
 unfoldable pub counts : ℕ → ℕ → ℕ → List ℕ

@@ -21,9 +21,9 @@ fn glyph(d: u16) -> u8
     ensures { λ r. ⌜ r ≡ Line.glyph d ⌝ }
 {
     if d < 10 {
-        return 48 + d as u8;
+        return 0x30 + d as u8;
     }
-    55 + d as u8
+    0x37 + d as u8
 }
 
 // A word's four hexadecimal digits.

@@ -2,6 +2,7 @@
 ghost use Prim.Native.Nat.{_<_};
 use super::below;
 use super::word;
+use psi::Psi;
 
 // The levels with one pin low.
 fn lowered(seed: &mut u32, levels: u32) -> u32 {
@@ -29,8 +30,8 @@ fn levels(seed: &mut u32, quiet: u16) -> u32
 fn cycles(seed: &mut u32) -> u16 {
     match below(seed, 4) {
         0 => 0,
-        1 => below(seed, 64),
-        2 => 64,
+        1 => below(seed, Psi::TICK_CYCLES),
+        2 => Psi::TICK_CYCLES,
         _ => below(seed, 1024),
     }
 }

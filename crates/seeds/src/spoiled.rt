@@ -1,5 +1,6 @@
 // States that are not well formed.
 use super::below;
+use super::states::CLOCK_NUMBERS;
 use machine::State;
 use psi::Psi;
 
@@ -9,12 +10,12 @@ pub const WAYS: u16 = 10;
 // A PSI that is not well formed, in one of seven ways.
 fn spoiled_psi(seed: &mut u32, psi: Psi, way: u16) -> Psi {
     let mut p = psi;
-    let large = 16384 + below(seed, 49152);
+    let large = CLOCK_NUMBERS + below(seed, 0xFFFF - Psi::CLOCK_LARGEST);
     match way {
         0 => p.load = large,
         1 => p.decrementer = large,
         2 => p.reading = large,
-        3 => p.phase = 64 + below(seed, 65472),
+        3 => p.phase = Psi::TICK_CYCLES + below(seed, 0xFFFF - (Psi::TICK_CYCLES - 1)),
         4 => p.pending = 2 + below(seed, 65534),
         5 => {
             let port = 1u16 << (below(seed, 16) as u32);
@@ -23,7 +24,7 @@ fn spoiled_psi(seed: &mut u32, psi: Psi, way: u16) -> Psi {
         }
         _ => {
             p.mask = p.mask / 2 * 2;
-            p.reading = (p.decrementer % 16384 + 1) % 16384;
+            p.reading = (p.decrementer % CLOCK_NUMBERS + 1) % CLOCK_NUMBERS;
         }
     }
     p

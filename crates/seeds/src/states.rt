@@ -7,6 +7,9 @@ use super::word;
 use machine::State;
 use psi::Psi;
 
+// How many numbers a clock register holds.
+pub const CLOCK_NUMBERS: u16 = Psi::CLOCK_LARGEST + 1;
+
 // Numbers that instructions treat in different ways.
 fn marked(n: u16) -> u16 {
     match n {
@@ -62,10 +65,10 @@ pub fn psi(seed: &mut u32) -> Psi {
     let mask = masks(seed);
     let direction = if once_in(seed, 4) { word(seed) } else { 0 };
     let latch = bits::both(word(seed), direction);
-    let load = mostly(seed, 0, 16384);
+    let load = mostly(seed, 0, CLOCK_NUMBERS);
     let soon = below(seed, 4);
-    let decrementer = mostly(seed, soon, 16384);
-    let other = below(seed, 16384);
+    let decrementer = mostly(seed, soon, CLOCK_NUMBERS);
+    let other = below(seed, CLOCK_NUMBERS);
     let reading = if mask % 2 == 0 { decrementer } else { other };
     Psi {
         mask,
@@ -74,7 +77,7 @@ pub fn psi(seed: &mut u32) -> Psi {
         load,
         decrementer,
         reading,
-        phase: below(seed, 64),
+        phase: below(seed, Psi::TICK_CYCLES),
         pending: below(seed, 2),
     }
 }

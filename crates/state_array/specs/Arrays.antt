@@ -1,5 +1,5 @@
 -- A state as an array of twelve numbers of 32 bits.
-use Prim.Native.Nat.{ℕ}
+use Prim.Native.Nat.{ℕ, _+_}
 use mathlib.Core.Bool.{Bool, true, _&&_}
 use mathlib.Core.List.{List, [], _∷_}
 use lib.ListN.{getD}
@@ -7,10 +7,15 @@ use lib.Dec.{ltb}
 use Rattle.bits.specs.Bits.{if_then_else_}
 use Rattle.psi.specs.Psi as Own
 use Rattle.machine.specs.declared.State.{State}
+use Rattle.image_blocks.specs.Image as Image
 
--- how many words a state is: those of an image's block 0 after format and edition, `Image.fields`
+-- the words of a state: WP, PC, ST, flags, and then the PSI's
+abbrev pub psi-word : ℕ
+psi-word = 4
+
+-- how many they are: those of an image's block 0 after format and edition, `Image.fields`
 abbrev pub state-words : ℕ
-state-words = 12
+state-words = psi-word + Image.psi-words
 
 -- whether each number fits its field of 16 bits
 unfoldable pub fits : List ℕ → Bool
@@ -26,14 +31,14 @@ held w =
       st = getD w 2 0;
       flags = getD w 3 0;
       psi = record {
-        mask = getD w 4 0;
-        direction = getD w 5 0;
-        latch = getD w 6 0;
-        load = getD w 7 0;
-        decrementer = getD w 8 0;
-        reading = getD w 9 0;
-        phase = getD w 10 0;
-        pending = getD w 11 0;
+        mask = getD w psi-word 0;
+        direction = getD w (psi-word + 1) 0;
+        latch = getD w (psi-word + 2) 0;
+        load = getD w (psi-word + 3) 0;
+        decrementer = getD w (psi-word + 4) 0;
+        reading = getD w (psi-word + 5) 0;
+        phase = getD w (psi-word + 6) 0;
+        pending = getD w (psi-word + 7) 0;
       };
     }
 

@@ -6,8 +6,10 @@ ghost use Rattle.state_array.specs.Arrays as Arrays;
 use machine::State;
 use psi::Psi;
 
-// How many words a state is: WP, PC, ST, flags and the PSI's.
-pub const STATE_WORDS: usize = 4 + Psi::WORDS;
+// The words of a state: WP, PC, ST and flags, and from `PSI_WORD` on the PSI's.
+const PSI_WORD: usize = 4;
+
+pub const STATE_WORDS: usize = PSI_WORD + Psi::WORDS;
 
 // Whether each number fits its field of 16 bits.
 fn fits(words: [u32; STATE_WORDS]) -> bool
@@ -45,14 +47,14 @@ pub fn state_of(words: [u32; STATE_WORDS]) -> State
             psi,
         };
     }
-    psi.mask = narrow(words[4]);
-    psi.direction = narrow(words[5]);
-    psi.latch = narrow(words[6]);
-    psi.load = narrow(words[7]);
-    psi.decrementer = narrow(words[8]);
-    psi.reading = narrow(words[9]);
-    psi.phase = narrow(words[10]);
-    psi.pending = narrow(words[11]);
+    psi.mask = narrow(words[PSI_WORD]);
+    psi.direction = narrow(words[PSI_WORD + 1]);
+    psi.latch = narrow(words[PSI_WORD + 2]);
+    psi.load = narrow(words[PSI_WORD + 3]);
+    psi.decrementer = narrow(words[PSI_WORD + 4]);
+    psi.reading = narrow(words[PSI_WORD + 5]);
+    psi.phase = narrow(words[PSI_WORD + 6]);
+    psi.pending = narrow(words[PSI_WORD + 7]);
     State {
         wp: narrow(words[0]),
         pc: narrow(words[1]),

@@ -2,6 +2,7 @@
 ghost use mathlib.Core.Path.{_≡_};
 ghost use Prim.Native.Nat.{_+_, _<_};
 ghost use lib.ListN.{length};
+ghost use Rattle.image_blocks.specs.Image as Image;
 use machine::State;
 use seeds::below;
 use seeds::spoiled;
@@ -10,6 +11,14 @@ use seeds::spoiled;
 pub const KINDS: u16 = 20;
 
 pub const PLACES: u16 = 3;
+
+// How many blocks an image has.
+const BLOCKS: u16 = image_blocks::BLOCKS as u16;
+
+// The state's fields in block 0, after format and edition: where they begin, and how many they are.
+const STATE_AT: usize = image_blocks::CONTENT + 4;
+
+const STATE_FIELDS: usize = image_blocks::FIELDS - 2;
 
 // The word that starts at a byte.
 fn word_at(image: &[u8], at: usize) -> u16
@@ -38,11 +47,11 @@ fn difference(seed: &mut u32) -> u16 {
 
 // Adds a difference to word `n` of a block.
 fn change(image: &mut [u8], seed: &mut u32, block: usize, n: usize)
-    requires { ⌜ length (now image) ≡ 17408 ⌝ }
-    requires { ⌜ block < 34 ⌝ }
+    requires { ⌜ length (now image) ≡ Image.image-size ⌝ }
+    requires { ⌜ block < Image.block-count ⌝ }
     requires { ⌜ n < 256 ⌝ }
 {
-    let at = 512 * block + 2 * n;
+    let at = image_blocks::BLOCK_SIZE * block + 2 * n;
     let word = word_at(image, at);
     put(
         image,
@@ -53,23 +62,27 @@ fn change(image: &mut [u8], seed: &mut u32, block: usize, n: usize)
 
 // Makes a block's check word right.
 fn mend(image: &mut [u8], block: usize)
-    requires { ⌜ length (now image) ≡ 17408 ⌝ }
-    requires { ⌜ block < 34 ⌝ }
+    requires { ⌜ length (now image) ≡ Image.image-size ⌝ }
+    requires { ⌜ block < Image.block-count ⌝ }
 {
-    let first = 512 * block;
+    let first = image_blocks::BLOCK_SIZE * block;
     let mut sum: u16 = 0;
     let mut n = 0;
     while n < 255 {
         sum = std::num::wrapping_add_u16(sum, word_at(image, first + 2 * n));
         n += 1;
     }
-    put(image, first + 510, std::num::wrapping_sub_u16(65535, sum));
+    put(
+        image,
+        first + image_blocks::CHECK,
+        std::num::wrapping_sub_u16(image_blocks::SUM, sum),
+    );
 }
 
 // Changes word `n` of a block, whose check word is right after it.
 fn change_and_mend(image: &mut [u8], seed: &mut u32, block: usize, n: usize)
-    requires { ⌜ length (now image) ≡ 17408 ⌝ }
-    requires { ⌜ block < 34 ⌝ }
+    requires { ⌜ length (now image) ≡ Image.image-size ⌝ }
+    requires { ⌜ block < Image.block-count ⌝ }
     requires { ⌜ n < 256 ⌝ }
 {
     change(image, seed, block, n);
@@ -78,18 +91,18 @@ fn change_and_mend(image: &mut [u8], seed: &mut u32, block: usize, n: usize)
 
 // A block of a class: the first, one in the middle, the last.
 fn block_at(seed: &mut u32, place: u16) -> usize
-    ensures { λ r. ⌜ r < 34 ⌝ }
+    ensures { λ r. ⌜ r < Image.block-count ⌝ }
 {
     match place {
         0 => 0,
-        1 => 1 + below(seed, 32) as usize,
-        _ => 33,
+        1 => 1 + below(seed, BLOCKS - 2) as usize,
+        _ => image_blocks::LAST,
     }
 }
 
 // Puts a state's words into block 0.
 fn put_state(image: &mut [u8], state: State)
-    requires { ⌜ length (now image) ≡ 17408 ⌝ }
+    requires { ⌜ length (now image) ≡ Image.image-size ⌝ }
 {
     let psi = state.psi;
     let words = [
@@ -107,8 +120,8 @@ fn put_state(image: &mut [u8], state: State)
         psi.pending,
     ];
     let mut n = 0;
-    while n < 12 {
-        put(image, 6 + 2 * n, words[n]);
+    while n < STATE_FIELDS {
+        put(image, STATE_AT + 2 * n, words[n]);
         n += 1;
     }
     mend(image, 0);
@@ -116,7 +129,7 @@ fn put_state(image: &mut [u8], state: State)
 
 // Damage to block 0 and to the filler.
 fn damage_content(image: &mut [u8], seed: &mut u32, kind: u16)
-    requires { ⌜ length (now image) ≡ 17408 ⌝ }
+    requires { ⌜ length (now image) ≡ Image.image-size ⌝ }
 {
     match kind {
         13 => change_and_mend(image, seed, 0, 1),
@@ -127,15 +140,15 @@ fn damage_content(image: &mut [u8], seed: &mut u32, kind: u16)
         }
         _ => {
             let n = 65 + below(seed, 190) as usize;
-            change_and_mend(image, seed, 33, n)
+            change_and_mend(image, seed, image_blocks::LAST, n)
         }
     }
 }
 
 // Damage to the block of this number.
 fn damage_block(image: &mut [u8], seed: &mut u32, kind: u16, block: usize)
-    requires { ⌜ length (now image) ≡ 17408 ⌝ }
-    requires { ⌜ block < 34 ⌝ }
+    requires { ⌜ length (now image) ≡ Image.image-size ⌝ }
+    requires { ⌜ block < Image.block-count ⌝ }
 {
     match kind {
         10 => {
@@ -149,7 +162,7 @@ fn damage_block(image: &mut [u8], seed: &mut u32, kind: u16, block: usize)
             change_and_mend(image, seed, block, n)
         }
         _ => {
-            let other = below(seed, 34) as usize;
+            let other = below(seed, BLOCKS) as usize;
             change_and_mend(image, seed, block, 0);
             change(image, seed, other, 7)
         }
@@ -158,7 +171,7 @@ fn damage_block(image: &mut [u8], seed: &mut u32, kind: u16, block: usize)
 
 // Damage of a kind, in a block of the class where the kind leaves a choice. The last kind is none, and so are any further.
 pub fn damage(image: &mut [u8], seed: &mut u32, state: State, kind: u16, place: u16)
-    requires { ⌜ length (now image) ≡ 17408 ⌝ }
+    requires { ⌜ length (now image) ≡ Image.image-size ⌝ }
 {
     if kind < spoiled::WAYS {
         put_state(image, spoiled::spoiled(seed, state, kind));

@@ -1,8 +1,9 @@
 // Images written, damaged and read, with lent parts of the right and of wrong lengths; sums of what came of it.
 ghost use mathlib.Core.Path.{_≡_};
-ghost use Prim.Native.Nat.{_<_, _≤_};
+ghost use Prim.Native.Nat.{_+_, _<_, _≤_};
 ghost use lib.ListN.{length};
-ghost use Rattle.memory.specs.Memory.{Installed};
+ghost use Rattle.memory.specs.Memory.{Installed, size};
+ghost use Rattle.image_blocks.specs.Image as Image;
 use machine::State;
 use seeds::below;
 use seeds::lines;
@@ -15,6 +16,11 @@ mod damage;
 const LINES: u32 = 128;
 
 const CASES: u32 = 20;
+
+// The sizes of the memory and of an image.
+const MEMORY: u16 = memory::SIZE as u16;
+
+const IMAGE: u16 = image_blocks::IMAGE_SIZE as u16;
 
 // What reading the image answered, and the sums of all answers of the case, of the memory and of the image.
 struct Outcome {
@@ -49,11 +55,11 @@ fn any_state(seed: &mut u32, state: State) -> State {
 // Writes from a part of the memory into a part of the image.
 fn write_parts(bytes: &[u8], image: &mut [u8], seed: &mut u32, state: State) -> u32
     requires { ⌜ Installed (now bytes) ⌝ }
-    requires { ⌜ length (now image) ≡ 17408 ⌝ }
+    requires { ⌜ length (now image) ≡ Image.image-size ⌝ }
 {
     let given = any_state(seed, state);
-    let from = size(seed, 16384);
-    let to = size(seed, 17408);
+    let from = size(seed, MEMORY);
+    let to = size(seed, IMAGE);
     let answer = image::write_image(given, &bytes[0..from], &mut image[0..to]);
     let after = answer.state;
     states::mix_state(answer.number as u32, after)
@@ -62,10 +68,10 @@ fn write_parts(bytes: &[u8], image: &mut [u8], seed: &mut u32, state: State) -> 
 // Reads from a part of the image into a part of the memory.
 fn read_parts(image: &[u8], bytes: &mut [u8], seed: &mut u32, sum: u32) -> u32
     requires { ⌜ Installed (now bytes) ⌝ }
-    requires { ⌜ length (now image) ≡ 17408 ⌝ }
+    requires { ⌜ length (now image) ≡ Image.image-size ⌝ }
 {
-    let from = size(seed, 17408);
-    let to = size(seed, 16384);
+    let from = size(seed, IMAGE);
+    let to = size(seed, MEMORY);
     let answer = image::read_image(&image[0..from], &mut bytes[0..to]);
     let after = answer.state;
     let numbers = seeds::mix(seeds::mix(sum, answer.number as u32), answer.block as u32);
@@ -75,7 +81,7 @@ fn read_parts(image: &[u8], bytes: &mut [u8], seed: &mut u32, sum: u32) -> u32
 // Writes between parts, and then the whole image.
 fn write(bytes: &[u8], image: &mut [u8], seed: &mut u32, state: State) -> u32
     requires { ⌜ Installed (now bytes) ⌝ }
-    requires { ⌜ length (now image) ≡ 17408 ⌝ }
+    requires { ⌜ length (now image) ≡ Image.image-size ⌝ }
 {
     let sum = write_parts(bytes, image, seed, state);
     let answer = image::write_image(state, bytes, image);
@@ -86,7 +92,7 @@ fn write(bytes: &[u8], image: &mut [u8], seed: &mut u32, state: State) -> u32
 // Makes the image of a state and of any bytes, and damages it.
 fn prepare(bytes: &mut [u8], image: &mut [u8], seed: &mut u32, kind: u16, place: u16) -> u32
     requires { ⌜ Installed (now bytes) ⌝ }
-    requires { ⌜ length (now image) ≡ 17408 ⌝ }
+    requires { ⌜ length (now image) ≡ Image.image-size ⌝ }
 {
     seeds::fill(bytes, seed);
     let flags = below(seed, 4);
@@ -99,7 +105,7 @@ fn prepare(bytes: &mut [u8], image: &mut [u8], seed: &mut u32, kind: u16, place:
 // Reads between parts, and then the whole image.
 fn read(image: &[u8], bytes: &mut [u8], seed: &mut u32, sum: u32) -> Outcome
     requires { ⌜ Installed (now bytes) ⌝ }
-    requires { ⌜ length (now image) ≡ 17408 ⌝ }
+    requires { ⌜ length (now image) ≡ Image.image-size ⌝ }
 {
     let parts = read_parts(image, bytes, seed, sum);
     let left = seeds::mix_bytes(parts, bytes);
@@ -117,7 +123,7 @@ fn read(image: &[u8], bytes: &mut [u8], seed: &mut u32, sum: u32) -> Outcome
 // One case: an image written, damaged, and read into other bytes.
 fn one(bytes: &mut [u8], image: &mut [u8], seed: &mut u32, kind: u16, place: u16) -> Outcome
     requires { ⌜ Installed (now bytes) ⌝ }
-    requires { ⌜ length (now image) ≡ 17408 ⌝ }
+    requires { ⌜ length (now image) ≡ Image.image-size ⌝ }
 {
     let sum = prepare(bytes, image, seed, kind, place);
     seeds::fill(bytes, seed);
@@ -127,7 +133,7 @@ fn one(bytes: &mut [u8], image: &mut [u8], seed: &mut u32, kind: u16, place: u16
 // A kind of damage in a class of places, shown by itself.
 fn show(bytes: &mut [u8], image: &mut [u8], seed: &mut u32, kind: u16, place: u16)
     requires { ⌜ Installed (now bytes) ⌝ }
-    requires { ⌜ length (now image) ≡ 17408 ⌝ }
+    requires { ⌜ length (now image) ≡ Image.image-size ⌝ }
 {
     let outcome = one(bytes, image, seed, kind, place);
     lines::number(kind as u64);
@@ -141,7 +147,7 @@ fn show(bytes: &mut [u8], image: &mut [u8], seed: &mut u32, kind: u16, place: u1
 // Every kind of damage in every class of places.
 fn every_kind(bytes: &mut [u8], image: &mut [u8], seed: &mut u32)
     requires { ⌜ Installed (now bytes) ⌝ }
-    requires { ⌜ length (now image) ≡ 17408 ⌝ }
+    requires { ⌜ length (now image) ≡ Image.image-size ⌝ }
 {
     let mut n: u16 = 0;
     while n < damage::KINDS * damage::PLACES {
@@ -160,7 +166,7 @@ fn mix_outcome(sum: u32, outcome: Outcome) -> u32 {
 // A line: some cases with any damage, and the sum.
 fn line(bytes: &mut [u8], image: &mut [u8], seed: &mut u32)
     requires { ⌜ Installed (now bytes) ⌝ }
-    requires { ⌜ length (now image) ≡ 17408 ⌝ }
+    requires { ⌜ length (now image) ≡ Image.image-size ⌝ }
 {
     let mut accepted: u64 = 0;
     let mut sum: u32 = 0;
@@ -180,7 +186,7 @@ fn line(bytes: &mut [u8], image: &mut [u8], seed: &mut u32)
 // Many cases.
 fn many(bytes: &mut [u8], image: &mut [u8], seed: &mut u32)
     requires { ⌜ Installed (now bytes) ⌝ }
-    requires { ⌜ length (now image) ≡ 17408 ⌝ }
+    requires { ⌜ length (now image) ≡ Image.image-size ⌝ }
 {
     let mut n: u32 = 0;
     while n < LINES {
@@ -191,31 +197,31 @@ fn many(bytes: &mut [u8], image: &mut [u8], seed: &mut u32)
 
 // Writes with a memory or an image that has one byte too many.
 fn write_longer(bytes: &[u8], image: &mut [u8])
-    requires { ⌜ length (now bytes) ≡ 16385 ⌝ }
-    requires { ⌜ length (now image) ≡ 17409 ⌝ }
+    requires { ⌜ length (now bytes) ≡ size + 1 ⌝ }
+    requires { ⌜ length (now image) ≡ Image.image-size + 1 ⌝ }
 {
     let state = State::blank();
-    let memory = image::write_image(state, bytes, &mut image[0..17408]);
-    let whole = image::write_image(state, &bytes[0..16384], image);
+    let memory = image::write_image(state, bytes, &mut image[0..image_blocks::IMAGE_SIZE]);
+    let whole = image::write_image(state, &bytes[0..memory::SIZE], image);
     lines::number(memory.number as u64);
     lines::number(whole.number as u64);
 }
 
 // Reads with a memory or an image that has one byte too many.
 fn read_longer(image: &[u8], bytes: &mut [u8])
-    requires { ⌜ length (now bytes) ≡ 16385 ⌝ }
-    requires { ⌜ length (now image) ≡ 17409 ⌝ }
+    requires { ⌜ length (now bytes) ≡ size + 1 ⌝ }
+    requires { ⌜ length (now image) ≡ Image.image-size + 1 ⌝ }
 {
-    let memory = image::read_image(&image[0..17408], bytes);
-    let whole = image::read_image(image, &mut bytes[0..16384]);
+    let memory = image::read_image(&image[0..image_blocks::IMAGE_SIZE], bytes);
+    let whole = image::read_image(image, &mut bytes[0..memory::SIZE]);
     lines::number(memory.number as u64);
     lines::number(whole.number as u64);
 }
 
 // The four calls, and the bytes, which they leave.
 fn longer(bytes: &mut [u8], image: &mut [u8])
-    requires { ⌜ length (now bytes) ≡ 16385 ⌝ }
-    requires { ⌜ length (now image) ≡ 17409 ⌝ }
+    requires { ⌜ length (now bytes) ≡ size + 1 ⌝ }
+    requires { ⌜ length (now image) ≡ Image.image-size + 1 ⌝ }
 {
     write_longer(bytes, image);
     read_longer(image, bytes);
@@ -225,15 +231,15 @@ fn longer(bytes: &mut [u8], image: &mut [u8])
 
 // A memory and an image with one byte too many.
 fn show_longer() {
-    let mut bytes = [0u8; 16385];
-    let mut image = [0u8; 17409];
+    let mut bytes = [0u8; memory::SIZE + 1];
+    let mut image = [0u8; image_blocks::IMAGE_SIZE + 1];
     longer(&mut bytes, &mut image);
 }
 
 // All cases, on the bytes and the image of the machine's sizes.
 fn all(bytes: &mut [u8], image: &mut [u8])
     requires { ⌜ Installed (now bytes) ⌝ }
-    requires { ⌜ length (now image) ≡ 17408 ⌝ }
+    requires { ⌜ length (now image) ≡ Image.image-size ⌝ }
 {
     let mut seed: u32 = 17408;
     every_kind(bytes, image, &mut seed);
@@ -241,8 +247,8 @@ fn all(bytes: &mut [u8], image: &mut [u8])
 }
 
 fn main() {
-    let mut bytes = [0u8; 16384];
-    let mut image = [0u8; 17408];
+    let mut bytes = [0u8; memory::SIZE];
+    let mut image = [0u8; image_blocks::IMAGE_SIZE];
     show_longer();
     all(&mut bytes, &mut image);
 }

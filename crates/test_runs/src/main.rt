@@ -20,6 +20,9 @@ const MEMORIES: u32 = 16;
 
 const CALLS: u32 = 8;
 
+// The memory's size.
+const MEMORY: u16 = memory::SIZE as u16;
+
 // The state that the last accepted call left, the sum so far, and the counts.
 struct Course {
     state: State,
@@ -83,7 +86,7 @@ fn run_short(
 ) -> RunAnswer
     requires { ⌜ Installed (now bytes) ⌝ }
 {
-    let size = below(seed, 16384) as usize;
+    let size = below(seed, MEMORY) as usize;
     run::run(&mut bytes[0..size], state, records, steps, 1)
 }
 
@@ -221,12 +224,12 @@ fn line(bytes: &mut [u8], seed: &mut u32, records: &mut [u32])
 // Calls on memories of another size than the machine's.
 fn other_sizes() {
     let blank = State::blank();
-    let mut long = [0u8; 16385];
+    let mut long = [0u8; memory::SIZE + 1];
     let records = [0u32; 1];
     let up = run::power_up(&mut long);
     let ran = run::run(&mut long, blank, &records, 1, 1);
     let state = up.state;
-    let mut short = [0u8; 16383];
+    let mut short = [0u8; memory::SIZE - 1];
     let up_short = run::power_up(&mut short);
     lines::number(up.number as u64);
     lines::number(ran.number as u64);
@@ -236,7 +239,7 @@ fn other_sizes() {
 }
 
 fn main() {
-    let mut bytes = [0u8; 16384];
+    let mut bytes = [0u8; memory::SIZE];
     let mut records = [0u32; 1024];
     let mut seed: u32 = 9900;
     other_sizes();

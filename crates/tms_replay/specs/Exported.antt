@@ -1,5 +1,6 @@
 -- The calls as C, Fortran and Rust see them: a state is an array of twelve numbers, counts are two numbers, a block one.
 use Prim.Native.Nat.{ℕ}
+use mathlib.Core.Path.{_≡_}
 use mathlib.Core.List.{List, [], _∷_}
 use lib.Dec.{eqb}
 use Rattle.bits.specs.Bits.{if_then_else_}
@@ -43,6 +44,11 @@ handed w r =
 -- run, on the state of the array
 unfoldable pub run : List ℕ → List ℕ → List ℕ → ℕ → ℕ → Ran
 run m w records steps stop = handed w (Run.run m (state-of w) records steps stop)
+
+-- What a call of `tms_run` promises: its number, and the memory, the array and the counts after it, are these.
+abbrev pub Promised : List ℕ → List ℕ → List ℕ → ℕ → ℕ → ℕ → List ℕ → List ℕ → List ℕ → Type 0
+Promised m w records steps stop number memory state counts =
+    record { number = number; memory = memory; state = state; counts = counts } ≡ run m w records steps stop
 
 pub record Read : Type 0 where
   pub number : ℕ

@@ -6,6 +6,9 @@ use state_array::STATE_WORDS;
 use state_array::state_of;
 use state_array::words_of;
 
+// A run's counts: the steps done, and how many of them met an unassigned word.
+pub const COUNTS: usize = 2;
+
 // Power up on the lent memory.
 #[no_mangle]
 pub extern "C" fn tms_power_up(memory: &mut [u8], state: &mut [u32; STATE_WORDS]) -> u16
@@ -26,12 +29,9 @@ pub extern "C" fn tms_run(
     records: &[u32],
     steps: usize,
     stop: u16,
-    counts: &mut [u64; 2],
+    counts: &mut [u64; COUNTS],
 ) -> u16
-    ensures { λ r. ⌜ r ≡ Exported.run (now (memory .entry)) (now (state .entry)) (now (records .entry)) steps stop .number ⌝ }
-    ensures { λ _. ⌜ now (memory .exit) ≡ Exported.run (now (memory .entry)) (now (state .entry)) (now (records .entry)) steps stop .memory ⌝ }
-    ensures { λ _. ⌜ now (state .exit) ≡ Exported.run (now (memory .entry)) (now (state .entry)) (now (records .entry)) steps stop .state ⌝ }
-    ensures { λ _. ⌜ now (counts .exit) ≡ Exported.run (now (memory .entry)) (now (state .entry)) (now (records .entry)) steps stop .counts ⌝ }
+    ensures { λ r. ⌜ Exported.Promised (now (memory .entry)) (now (state .entry)) (now (records .entry)) steps stop r (now (memory .exit)) (now (state .exit)) (now (counts .exit)) ⌝ }
 {
     let before = state_of(*state);
     let answer = super::run(memory, before, records, steps, stop);

@@ -8,20 +8,18 @@ use Rattle.replay.proofs.replay_read.Tie as tie
 
 slice-aggregate-replay : tie.Need-slice-aggregate-replay
 slice-aggregate-replay c =
-    let a = c .before .before .before .before .before .before .args in
+    let a = c .before .before .before .before .args in
     sym (length-take-le (a .n) (a .before .now) (omega arith))
 
 slice-aggregate-replay-2 : tie.Need-slice-aggregate-replay-2
 slice-aggregate-replay-2 c =
-    let a = c .before .before .before .before .before .before .before .args in
+    let a = c .before .before .before .before .before .args in
     sym (length-take-le (a .m) (a .file .now) (omega arith))
 
 pub replay-read-spec : {M : Type 1} → statement M
 replay-read-spec =
     tie.close
     (tie.spec
-    (λ c. search needs)
-    (λ c. search needs)
     slice-aggregate-replay
     slice-aggregate-replay-2
     (λ c κs. search needs)

@@ -1,5 +1,5 @@
 -- `tms_run` meets its contract: the call's answer is handed on, and a refusal leaves the array alone.
-use borrow.Author.Tests.{eq-eqb, ne-eqb}
+use borrow.Author.Tests.{ne-eqb}
 use Rattle.tms_replay.specs.Exported.{run}
 use borrow.Author.Needs.{needs}
 use Rattle.tms_replay.proofs.exported.tms_run.Statement.{statement}
@@ -9,20 +9,15 @@ returns : tie.Need-returns
 unfolding run
 returns c =
     let words = c .before .before .before .before .before .before .before .state-of .ensures in
-    let said = c .before .before .before .before .before .run .ensures in (
-      rw (← words, ← said),
-      (rw (← words, ← said), (rw (← words, ← said, ne-eqb _ _ (c .if1 .taken)), rw (← words, ← said))),
-    )
+    let said = c .before .before .before .before .before .run .ensures in
+    rw (← words, ← said, ne-eqb _ _ (c .if1 .taken))
 
 returns-2 : tie.Need-returns-2
 unfolding run
 returns-2 c =
     let words = c .before .before .before .before .before .before .before .before .state-of .ensures in
     let said = c .before .before .before .before .before .before .run .ensures in
-    let accepted = c .before .if1 .left in (
-      rw (← words, ← said, accepted),
-      (rw (← words, ← said), (rw (← words, ← said, eq-eqb _ _ accepted, c .words-of .ensures), rw (← words, ← said))),
-    )
+    rw (← words, ← said, c .before .if1 .left, c .words-of .ensures)
 
 pub tms-run-spec : {M : Type 1} → statement M
 tms-run-spec =
