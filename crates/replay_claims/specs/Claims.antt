@@ -6,7 +6,7 @@ use lib.ListN.{length, take}
 use Rattle.memory.specs.Memory.{size}
 use Rattle.psi.specs.Psi as Own
 use Rattle.machine.specs.declared.State.{State}
-use Rattle.machine.specs.Cases.{Poke, poked, zeros}
+use Rattle.machine.specs.Cases.{word, poked, zeros}
 use Rattle.image_blocks.specs.Image as Image
 use Rattle.replay_files.specs.Pins as Pins
 use Rattle.replay_call.specs.Replay.{replay, replay-in}
@@ -20,9 +20,6 @@ abbrev pub Starts-of-files : Type 0
 Starts-of-files =
     (image pins after : List ℕ)
     → replay (take (Image.image-size + 1) image) (take (4 * (1 + Pins.most)) pins) after ≡ replay image pins after
-
-abbrev word : ℕ → ℕ → Poke
-word a x = record { at = a; word = x }
 
 -- Document 01's example: WP 0300h, PC 0100h, ST 0, blank PSI, flags 0; P1's word, then 0000h at 0100h, 7FFFh at 0302h, 0001h at 0304h.
 abbrev pub start : State
