@@ -14,7 +14,7 @@ use Rattle.image_blocks.specs.Image as Image
 use Rattle.image.specs.Calls.{ReadResult, read, read-fault}
 use Rattle.machine.specs.State.{blank}
 use Rattle.replay_files.specs.Pins as Pins
-use Rattle.replay_call.specs.Replay.{replay, replay-in}
+use Rattle.replay_call.specs.Replay.{replay-in}
 use Rattle.replay_claims.specs.Claims as Claims
 
 -- an image of another size is refused with 5
@@ -66,6 +66,22 @@ records-start : (pins : List ℕ) → Pins.records (take (4 * (1 + Pins.most)) p
 unfolding Pins.records
 records-start pins = ap Pins.records-in (words-taken (1 + Pins.most) pins) ∙ records-taken Pins.most (Pins.words pins) (omega arith)
 
-pub starts-of-files : Claims.Starts-of-files
+-- of the files no more matters than what is read and taken of them
+same-replay :
+    (m image start pins first after : List ℕ) → read start m ≡ read image m → Pins.stop first ≡ Pins.stop pins → Pins.records first ≡ Pins.records pins
+    → replay-in m start first after ≡ replay-in m image pins after
 unfolding replay-in
-starts-of-files image pins after = rw (read-start image (replicate size 0) refl, stop-start pins, records-start pins)
+same-replay m image start pins first after r s e = rw (r, s, e)
+
+pub starts-of-files : Claims.Starts-of-files
+starts-of-files image pins after =
+    same-replay
+    (replicate size 0)
+    image
+    (take (Image.image-size + 1) image)
+    pins
+    (take (4 * (1 + Pins.most)) pins)
+    after
+    (read-start image (replicate size 0) refl)
+    (stop-start pins)
+    (records-start pins)
