@@ -9,6 +9,7 @@ use machine::Deed;
 use machine::Executed;
 use machine::State;
 
+// Performs a decoded instruction.
 pub fn perform_instruction(
     bytes: &mut [u8],
     state: State,
