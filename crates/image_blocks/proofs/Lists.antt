@@ -25,11 +25,6 @@ take-min (suc m) (suc n) (x ∷ l) = rw (let e : min (suc m) (suc n) ≡ suc (mi
 pub take-there : (k : ℕ) (l : List ℕ) → take (min k (length l)) l ≡ take k l
 take-there k l = sym (take-min k (length l) l) ∙ ap (take k) (take-all (length l) l (omega arith))
 
-pub drop-replicate : (k n : ℕ) → drop {A = ℕ} k (replicate n 0) ≡ replicate (n - k) 0
-drop-replicate zero n = rw (let e : n - zero ≡ n = omega arith in e)
-drop-replicate (suc k) zero = rw (let e : zero - suc k ≡ zero = omega arith in e)
-drop-replicate (suc k) (suc n) = rw (let e : suc n - suc k ≡ n - k = omega arith in e) (drop-replicate k n)
-
 pub length-padded : (n : ℕ) (l : List ℕ) → length l ≤ n → length (padded n l) ≡ n
 unfolding padded
 length-padded n l h = simp (length-append, length-replicate) (omega arith)

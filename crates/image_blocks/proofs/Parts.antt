@@ -10,7 +10,8 @@ use lib.Seq.{length-take-le, take-take, drop-drop, getD-take, getD-drop, sets-eq
 use lib.Dec.{eqb}
 use Rattle.image_blocks.specs.Image.{image-size, block-of, content-of, contents-of, memory-of, field-of, filler-of, zeros, word-at, word-bytes, padded}
 use Rattle.image_blocks.specs.Blocks.{put-word}
-use Rattle.image_blocks.proofs.Lists.{drop-take, take-there, drop-replicate, joined, joined-part, joined-length, joined-last}
+use Rattle.memory.proofs.Zeros.{drop-replicate}
+use Rattle.image_blocks.proofs.Lists.{drop-take, take-there, joined, joined-part, joined-length, joined-last}
 
 -- a word put at the end of a block
 pub put-last : (b : List ℕ) (x : ℕ) → length b ≡ 512 → put-word b 510 x ≡ take 510 b ++ word-bytes x

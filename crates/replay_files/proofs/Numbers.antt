@@ -12,6 +12,7 @@ use borrow.Author.Tests.{lt-ltb, le-ltb}
 use borrow.Rule.Slice.PartMut.{putMid}
 use Rattle.io.specs.Digits.{Fewest}
 use Rattle.replay_files.specs.Line.{places, places-in}
+use Rattle.memory.proofs.Zeros.{drop-replicate}
 
 lt-or-le : (a b : ℕ) → (a < b) ⊎ (b ≤ a)
 lt-or-le a b = choose (decLt a b)
@@ -77,11 +78,6 @@ copied-whole l p q at to t copied =
     drop-of-length-le (take (to - at) (drop at l)) {i = length p} (rw (length-take (to - at) (drop at l)) (omega arith)) in
     copied ∙ rw (none, take-length p) (append-nil p)
 
-drop-zeros : (k n : ℕ) → drop {A = ℕ} k (replicate n 0) ≡ replicate (n - k) 0
-drop-zeros zero n = rw (let e : n - zero ≡ n = omega arith in e)
-drop-zeros (suc k) zero = rw (let e : zero - suc k ≡ zero = omega arith in e)
-drop-zeros (suc k) (suc n) = rw (let e : suc n - suc k ≡ n - k = omega arith in e) (drop-zeros k n)
-
 -- behind a text with zeros after it
 pub appended :
     (t l p q : List ℕ) (at to : ℕ) → l ≡ t ++ replicate (128 - length t) 0 → at ≡ length t → to ≡ at + length p → to ≤ 128
@@ -93,7 +89,7 @@ appended t l p q at to h a f fits copied =
       h,
       take-at t (replicate (128 - length t) 0) at (sym a),
       drop-at t (replicate (128 - length t) 0) at (sym a),
-      drop-zeros (to - at) (128 - length t),
+      drop-replicate (to - at) (128 - length t),
       length-append t p,
       ← append-assoc t p (replicate (128 - length t - (to - at)) 0),
       let e : 128 - length t - (to - at) ≡ 128 - (length t + length p) = omega arith in e,
