@@ -2,12 +2,14 @@
 //! papers alone, so that another implementation can be compared with it.
 //!
 //! * [`power_up`], [`run`], [`read_image`], [`write_image`] are the four calls.
+//! * [`list`] writes one line of text for an instruction.
 //! * [`cpu::Machine`] does single steps and tells what each of them was.
 
 pub mod bus;
 pub mod cpu;
 pub mod expect;
 pub mod image;
+pub mod listing;
 pub mod psi;
 pub mod run;
 pub mod sample;
@@ -17,6 +19,7 @@ pub mod state;
 pub use bus::{Access, Bus, Memory, MEMORY_SIZE};
 pub use cpu::{Machine, Step};
 pub use image::{read_image, write_image, BLOCKS, BLOCK_SIZE, IMAGE_SIZE};
+pub use listing::{list, Listed, TEXT_SIZE};
 pub use psi::{CruBit, Pins, Psi};
 pub use run::{power_up, run};
 pub use state::{Answer, State};

@@ -57,6 +57,7 @@ impl Answer {
     pub const BLOCK_NUMBER_WRONG: u16 = 7;
     pub const FORMAT_WRONG: u16 = 8;
     pub const FIELDS_NOT_WELL_FORMED: u16 = 9;
+    pub const TEXT_TOO_SHORT: u16 = 11;
 
     pub fn accepted(state: State) -> Answer {
         Answer::numbered(Answer::ACCEPTED, state)
