@@ -4,6 +4,7 @@
 
 mod damage;
 mod images;
+mod listing;
 mod programs;
 mod runs;
 mod steps;
@@ -16,6 +17,7 @@ use crate::{State, MEMORY_SIZE};
 pub fn expect(name: &str) -> Option<String> {
     match name {
         "test_images" => Some(images::expect()),
+        "test_listing" => Some(listing::expect()),
         "test_runs" => Some(runs::expect()),
         "test_steps" => Some(steps::expect()),
         _ => None,
