@@ -66,7 +66,7 @@ fn the_customer_line() {
     assert_eq!(listed, expected);
     assert_eq!(&text[..37], line.as_bytes());
     assert_eq!(text[37..], [OLD; 11]);
-    // An odd address loses its lowest bit.
+    // From an odd address, the line is that of the even one before it.
     bench.put(0x0102, 0x0201);
     assert_eq!(
         list_into(&bench.memory, 0x0101, 48),

@@ -1,5 +1,5 @@
 //! Lines of the listing: some to be read, then sums over every word in the first
-//! place and in the second, with lent parts of the right and of wrong lengths.
+//! place and in the second, and last with some lent parts of wrong lengths.
 
 use std::fmt::Write;
 
@@ -11,7 +11,9 @@ use crate::{list, Answer, MEMORY_SIZE, TEXT_SIZE};
 const WORDS: u16 = 2048;
 /// Lines of a pass over all words.
 const PASS: u16 = 32;
-const LINES: u16 = 224;
+const LINES: u16 = 256;
+/// The one pass with refused calls.
+const REFUSALS: u16 = 7;
 
 /// The first words of the readable lines: from, below, in steps of.
 const RANGES: [(u32, u32, u32); 4] = [
@@ -77,6 +79,23 @@ fn words(seeds: &mut Seeds, pass: u16, value: u16) -> [u16; 3] {
     }
 }
 
+fn memory_length(seeds: &mut Seeds, pass: u16) -> usize {
+    if pass == REFUSALS && seeds.once_in(4) {
+        usize::from(seeds.below(16387))
+    } else {
+        MEMORY_SIZE
+    }
+}
+
+fn text_length(seeds: &mut Seeds, pass: u16) -> usize {
+    let length = if pass == REFUSALS && seeds.once_in(3) {
+        seeds.below(48)
+    } else {
+        48 + seeds.below(17)
+    };
+    usize::from(length)
+}
+
 impl Lent {
     fn one(&mut self, seeds: &mut Seeds, pass: u16, value: u16, course: &mut Course) {
         let address = address(seeds, pass);
@@ -85,20 +104,11 @@ impl Lent {
             put_word(&mut self.memory, at, word);
             at = at.wrapping_add(2);
         }
-        let size = if seeds.once_in(16) {
-            usize::from(seeds.below(16387))
-        } else {
-            MEMORY_SIZE
-        };
-        let length = if seeds.once_in(8) {
-            seeds.below(48)
-        } else {
-            48 + seeds.below(17)
-        };
-        let text = &mut self.text[..usize::from(length)];
+        let memory = &self.memory[..memory_length(seeds, pass)];
+        let text = &mut self.text[..text_length(seeds, pass)];
         fill(text, seeds);
 
-        let listed = list(&self.memory[..size], address, text);
+        let listed = list(memory, address, text);
         course.sum.mix(u32::from(listed.number));
         course.sum.mix(listed.length as u32);
         course.sum.mix(u32::from(listed.words));
