@@ -1,7 +1,7 @@
 -- What each of the 65536 words is, and how many further words it takes.
 use Prim.Native.Nat.{ℕ, _+_, _*_, _/_, _%_}
 use lib.Dec.{eqb, leb, ltb}
-use Rattle.bits.specs.Bits.{if_then_else_}
+use Rattle.bits.specs.Bits.{if_then_else_, signed-byte}
 use Rattle.memory.specs.declared.Width.{Width}
 use Rattle.memory.specs.declared.Width.the-variants.{Byte, Word}
 use Rattle.isa.specs.declared.Operand.{Operand}
@@ -91,6 +91,11 @@ bit-operation code =
     if eqb code 0x1D00 then Sbo
     else if eqb code 0x1E00 then Sbz
     else Tb
+
+-- where a jump goes: a signed displacement of words from the PC after the instruction; the addresses are 8000h words, and wrap
+-- at 65536
+unfoldable pub target : ℕ → ℕ → ℕ
+target pc d = (pc + 2 * signed-byte 0x8000 d) % 65536
 
 unfoldable pub with-displacement : ℕ → Instruction
 with-displacement w =

@@ -2,6 +2,7 @@
 ghost use mathlib.Core.Path.{_≡_};
 ghost use Rattle.isa.specs.Isa as Isa;
 use memory::Width;
+use std::num;
 
 // A general operand: addressing mode 0 to 3 and register 0 to 15.
 pub struct Operand {
@@ -293,6 +294,18 @@ fn bit_operation(code: u16) -> BitOp
     }
 }
 
+// Where a jump goes: a signed displacement of words from `pc`, the address after it; from 80h on it is 100h words less.
+pub fn target(pc: u16, displacement: u16) -> u16
+    ensures { λ r. ⌜ r ≡ Isa.target pc displacement ⌝ }
+{
+    let ahead = num::wrapping_add_u16(pc, num::wrapping_add_u16(displacement, displacement));
+    if displacement < 0x80 {
+        ahead
+    } else {
+        num::wrapping_sub_u16(ahead, 0x200)
+    }
+}
+
 // A word from 1000 to 1FFF.
 fn with_displacement(word: u16) -> Instruction
     ensures { λ r. ⌜ r ≡ Isa.with-displacement word ⌝ }
@@ -457,7 +470,7 @@ pub fn decode(word: u16) -> Instruction
 }
 
 // How many further words a general operand takes.
-fn operand_words(operand: Operand) -> u16
+pub fn operand_words(operand: Operand) -> u16
     ensures { λ r. ⌜ r ≡ Isa.operand-words operand ⌝ }
 {
     if operand.mode == 2 { 1 } else { 0 }

@@ -3,7 +3,7 @@
 use Prim.Native.Nat.{ℕ, zero, suc, _+_, _*_, _/_, _%_}
 use mathlib.Core.Bool.{Bool, true, false}
 use lib.Dec.{eqb, leb}
-use Rattle.bits.specs.Bits.{if_then_else_, one-if, bit, put, signed-byte}
+use Rattle.bits.specs.Bits.{if_then_else_, one-if, bit, put}
 use Rattle.bits.specs.Logic.{both, either, exclusive, without, inverted, swapped}
 use Rattle.memory.specs.declared.Width.{Width}
 use Rattle.memory.specs.declared.Width.the-variants.{Byte, Word}
@@ -26,6 +26,7 @@ use Rattle.isa.specs.declared.ImmediateOp.{ImmediateOp}
 use Rattle.isa.specs.declared.ImmediateOp.the-variants.{Li, Ai, Andi, Ori, Ci}
 use Rattle.isa.specs.declared.ControlOp.{ControlOp}
 use Rattle.isa.specs.declared.ControlOp.the-variants.{Idle, Rset, Rtwp, Ckon, Ckof, Lrex}
+use Rattle.isa.specs.Isa.{target}
 use Rattle.alu.specs.declared.Outcome.{Outcome}
 use Rattle.alu.specs.declared.Pair.{Pair}
 use Rattle.alu.specs.Status.{equal, overflow, extended, compared, parity, judged, jumps}
@@ -155,11 +156,10 @@ bit-effect Tb b = sensed b >>= set-equal
 unfoldable pub access-bit : BitOp → ℕ → Micro (Unit {0})
 access-bit op d = cru-base >>= λ b. bit-effect op (displaced b d)
 
--- JMP, JLT, JLE, JEQ, JHE, JGT, JNE, JNC, JOC, JNO, JL, JH, JOP: a signed displacement of words from the PC after the
--- instruction; the addresses are 8000h words, and wrap at 65536.
+-- JMP, JLT, JLE, JEQ, JHE, JGT, JNE, JNC, JOC, JNO, JL, JH, JOP
 unfoldable pub jump : JumpOp → ℕ → Micro (Unit {0})
 jump op d = registers >>= λ r.
-    if jumps op (r .st) then set to-pc ((r .pc + 2 * signed-byte 0x8000 d) % 65536) else done tt
+    if jumps op (r .st) then set to-pc (target (r .pc) d) else done tt
 
 -- a shift's count: R0 stands in for a coded 0 (`Shifts.amount`, which `shifted` takes, reads four bits of it)
 unfoldable pub shift-count : ℕ → Micro ℕ

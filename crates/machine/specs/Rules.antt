@@ -59,7 +59,7 @@ unfolding Isa.single-operation Isa.immediate-operation Isa.control-operation
 more-operations = tt
 
 unfoldable pub words : Unit {0}
-unfolding Isa.source Isa.destination Isa.dual Isa.with-register Isa.with-displacement Isa.shift Isa.single Isa.immediate Isa.decoded
+unfolding Isa.source Isa.destination Isa.dual Isa.with-register Isa.with-displacement Isa.shift Isa.single Isa.immediate Isa.decoded Isa.target
 words = tt
 
 unfoldable pub status : Unit {0}
