@@ -5,8 +5,8 @@ mod output;
 ghost use Prim.Native.Nat.{_≤_};
 ghost use lib.ListN.{length};
 ghost use Rattle.io.specs.Counts.{Counts};
-use replay_files::line;
 use replay_files::pins;
+use text::Text;
 
 // A byte more than an image is enough to see that a file is too long.
 const IMAGE_BUFFER: usize = image_blocks::IMAGE_SIZE + 1;
@@ -19,7 +19,7 @@ fn usage() {
 }
 
 // Prints the line; where that fails, says so.
-fn print_line(text: line::Text)
+fn print_line(text: Text)
     requires { ⌜ Counts (text .length) (text .bytes) ⌝ }
 {
     let bytes = text.bytes;

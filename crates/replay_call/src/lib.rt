@@ -4,26 +4,27 @@ ghost use lib.ListN.{length};
 ghost use Rattle.io.specs.Counts.{Counts};
 ghost use Rattle.machine.specs.Run as Run;
 ghost use Rattle.image.specs.Calls as Calls;
+ghost use Rattle.text.specs.Texts as Texts;
 ghost use Rattle.replay_files.specs.Pins as Pins;
-ghost use Rattle.replay_files.specs.Line as Line;
 ghost use Rattle.replay_call.specs.Replay as Replay;
 use image::WriteAnswer;
 use machine::RunAnswer;
 use machine::State;
 use replay_files::line;
 use replay_files::pins;
+use text::Text;
 
 // The number and the line.
 pub struct Replayed {
     pub number: u16,
-    pub text: line::Text,
+    pub text: Text,
 }
 
 // The line of a number, counts and a state.
 fn told(number: u16, steps: usize, unassigned: usize, state: State) -> Replayed
     ensures { λ r. ⌜ r .number ≡ number ⌝ }
     ensures { λ r. ⌜ Counts (r .text .length) (r .text .bytes) ⌝ }
-    ensures { λ r. ⌜ Line.Holds (r .text) (Replay.line number steps unassigned state) ⌝ }
+    ensures { λ r. ⌜ r .text ≡ Texts.appended Texts.empty (Replay.line number steps unassigned state) ⌝ }
 {
     let text = line::line(number, steps, unassigned, state.pc, state.wp, state.st);
     Replayed { number, text }
@@ -54,7 +55,7 @@ fn write_on(
 pub fn replay(image: &[u8], file: &[u8], after: &mut [u8; image_blocks::IMAGE_SIZE]) -> Replayed
     ensures { λ r. ⌜ r .number ≡ Replay.replay (now (image .entry)) (now (file .entry)) (now (after .entry)) .number ⌝ }
     ensures { λ r. ⌜ Counts (r .text .length) (r .text .bytes) ⌝ }
-    ensures { λ r. ⌜ Line.Holds (r .text) (Replay.replay (now (image .entry)) (now (file .entry)) (now (after .entry)) .line) ⌝ }
+    ensures { λ r. ⌜ r .text ≡ Texts.appended Texts.empty (Replay.replay (now (image .entry)) (now (file .entry)) (now (after .entry)) .line) ⌝ }
     ensures { λ _. ⌜ now (after .exit) ≡ Replay.replay (now (image .entry)) (now (file .entry)) (now (after .entry)) .image ⌝ }
 {
     let mut lent = [0u8; memory::SIZE];

@@ -17,6 +17,7 @@ use Rattle.image_blocks.specs.Image as Image
 use Rattle.image.specs.Calls.{read, read-fault}
 use Rattle.image_claims.proofs.Written.{read-written}
 use Rattle.image_claims.proofs.Claims.{writes}
+use Rattle.text.specs.Texts as Texts
 use Rattle.replay_files.specs.Pins as Pins
 use Rattle.replay_files.specs.Line as Line
 use Rattle.replay_call.specs.Replay.{line, replay, replay-in}
@@ -91,7 +92,7 @@ unfolding Cases.every
 formed-after = refl
 
 spelled : line 0 2 1 Claims.end ≡ Claims.line
-unfolding Line.text Line.counts Line.registers Line.decimal Line.places Line.places-in Line.hex Line.glyph
+unfolding Line.text Line.counts Line.registers Texts.ascii Texts.decimal Texts.decimal-in Texts.hex Texts.glyph
 spelled = refl
 
 pub example-line : Claims.Example-line

@@ -1,31 +1,52 @@
--- `registers` meets its contract: the parts go one behind the other.
+-- `registers` meets its contract: the parts go one behind the other, and their lengths are known.
+use mathlib.Core.List.{_++_}
 use native.Mathlib.Omega.{arith}
-use mathlib.Core.Path.{subst}
-use Rattle.replay_files.specs.Line.{Holds, registers, hex, pc-label, wp-label, st-label, line-feed}
-use Rattle.replay_files.proofs.Numbers.{regroup}
+use Rattle.text.specs.Texts.{ascii, hex}
+use Rattle.text.proofs.Laws.{appended-twice, room-after, room-less}
+use Rattle.replay_files.specs.Line.{registers}
 use borrow.Author.Needs.{needs}
 use Rattle.replay_files.proofs.line.registers.Statement.{statement}
 use Rattle.replay_files.proofs.line.registers.Tie as tie
 
+pc-requires : tie.Need-append-register-requires
+unfolding ascii hex registers
+pc-requires c κs = room-less (c .before .args .text) 8 25 (c .before .pre) (omega arith)
+
+wp-requires : tie.Need-append-register-requires-2
+unfolding ascii hex registers
+wp-requires c κs =
+    let start = c .before .before .before in
+    rw (c .before .append-register .ensures) (room-after _ _ 8 (room-less (start .args .text) 16 25 (start .pre) (omega arith)))
+
+st-requires : tie.Need-append-register-requires-3
+unfolding ascii hex registers
+st-requires c κs =
+    let start = c .before .before .before .before .before in
+    rw (c .before .append-register2 .ensures, c .before .before .before .append-register .ensures)
+    (room-after _ _ 8 (room-after _ _ 16 (room-less (start .args .text) 24 25 (start .pre) (omega arith))))
+
+feed-requires : tie.Need-append-requires
+unfolding ascii hex registers
+feed-requires c κs =
+    rw (c .before .append-register3 .ensures, c .before .before .before .append-register2 .ensures, c .before .before .before .before .before .append-register .ensures)
+    (room-after _ _ 1 (room-after _ _ 9 (room-after _ _ 17 (c .before .before .before .before .before .before .before .pre))))
+
 returns : tie.Need-returns
-unfolding registers
+unfolding ascii hex registers
 returns c =
-    let three = c .before .before in
-    let two = three .before .before .before in
-    let one = two .before .before .before in
-    let a = one .before .before .before .args in (
-      c .append4 .ensures .0,
-      (
-        omega arith,
-        λ t h.
-            subst (Holds (c .append4 .result)) (regroup t pc-label (hex (a .pc)) wp-label (hex (a .wp)) st-label (hex (a .st)) line-feed)
-            (c .append4 .ensures .1 .1 _
-            (three .append-hex3 .ensures .1 .1 _
-            (three .before .append3 .ensures .1 .1 _
-            (two .append-hex2 .ensures .1 .1 _
-            (two .before .append2 .ensures .1 .1 _
-            (one .append-hex .ensures .1 .1 _ (one .before .append .ensures .1 .1 t h))))))),
-      ),
+    let start = c .before .before .before .before .before .before .before .before in
+    let a = start .args in
+    let one = ascii " pc " ++ hex (a .pc) in
+    let two = ascii " wp " ++ hex (a .wp) in
+    let three = ascii " st " ++ hex (a .st) in
+    rw (
+      c .append .ensures,
+      c .before .before .append-register3 .ensures,
+      c .before .before .before .before .append-register2 .ensures,
+      c .before .before .before .before .before .before .append-register .ensures,
+      appended-twice (a .text) one two (room-less (a .text) 16 25 (start .pre) (omega arith)),
+      appended-twice (a .text) (one ++ two) three (room-less (a .text) 24 25 (start .pre) (omega arith)),
+      appended-twice (a .text) (one ++ two ++ three) (ascii "\n") (start .pre),
     )
 
 pub registers-spec : {M : Type 1} → statement M
@@ -33,14 +54,11 @@ registers-spec =
     tie.close
     (tie.spec
     (λ c. search needs)
-    (λ c κs. search needs)
-    (λ c κs. search needs)
+    pc-requires
     (λ c. search needs)
-    (λ c κs. search needs)
-    (λ c κs. search needs)
+    wp-requires
     (λ c. search needs)
-    (λ c κs. search needs)
-    (λ c κs. search needs)
+    st-requires
     (λ c. search needs)
-    (λ c κs. search needs)
+    feed-requires
     returns)

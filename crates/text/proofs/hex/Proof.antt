@@ -1,8 +1,8 @@
 -- `hex` meets its contract: a digit for each four bits.
-use Rattle.replay_files.specs.Line.{hex}
+use Rattle.text.specs.Texts.{hex}
 use borrow.Author.Needs.{needs}
-use Rattle.replay_files.proofs.line.hex.Statement.{statement}
-use Rattle.replay_files.proofs.line.hex.Tie as tie
+use Rattle.text.proofs.hex.Statement.{statement}
+use Rattle.text.proofs.hex.Tie as tie
 
 returns : tie.Need-returns
 unfolding hex

@@ -1,9 +1,9 @@
 -- `glyph` meets its contract: digits below 10 and the others.
 use borrow.Author.Tests.{lt-ltb, le-ltb}
-use Rattle.replay_files.specs.Line.{glyph}
+use Rattle.text.specs.Texts.{glyph}
 use borrow.Author.Needs.{needs}
-use Rattle.replay_files.proofs.line.glyph.Statement.{statement}
-use Rattle.replay_files.proofs.line.glyph.Tie as tie
+use Rattle.text.proofs.glyph.Statement.{statement}
+use Rattle.text.proofs.glyph.Tie as tie
 
 returns : tie.Need-returns
 unfolding glyph
