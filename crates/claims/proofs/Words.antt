@@ -45,7 +45,7 @@ use Rattle.machine.specs.Execute.{instruction, again, execute}
 use Rattle.machine.proofs.Bind.{perform-bind, accesses-bind, fetches-append}
 use Rattle.claims.specs.Words.{words, counted, Announced-words-are-fetched, executed, Executed-words-are-fetched}
 
-words-bind :
+pub words-bind :
     {A B : Type 0} (v : ℕ) (p : Micro A) (f : A → Micro B) (m : Machine)
     → words v (p >>= f) m ≡ words v p m + words v (f (perform v p m .value)) (perform v p m .machine)
 words-bind v p f m = ap fetches (accesses-bind v p f m) ∙ fetches-append _ _
@@ -68,11 +68,11 @@ module _ (v : ℕ) where
   unfolding accesses fetches set
   of-set t x m = refl
 
-  of-fetched : Takes v 1 fetched
+  pub of-fetched : Takes v 1 fetched
   unfolding accesses fetches fetched
   of-fetched m = refl
 
-  of-load : (w : Width) (a : ℕ) → Takes v 0 (load w a)
+  pub of-load : (w : Width) (a : ℕ) → Takes v 0 (load w a)
   unfolding accesses fetches load
   of-load w a m = refl
 
@@ -114,7 +114,7 @@ module _ (v : ℕ) where
   of-further true w n m = of-indexed n m
   of-further false w n m = of-stepped w n m
 
-  of-operand : (w : Width) (o : Operand) → Takes v (operand-words o) (operand w o)
+  pub of-operand : (w : Width) (o : Operand) → Takes v (operand-words o) (operand w o)
   unfolding operand operand-words
   of-operand w o m =
       either-way (λ (p : Micro ℕ). words v p m ≡ operand-words o) (eqb (o .mode) 0)
@@ -339,7 +339,7 @@ announced-words-are-fetched v again (Control op) m = rw (then-done, of-command)
 announced-words-are-fetched v again Unassigned m = of-done v _ m
 
 -- X loads the word at its operand's address
-perform-load : (v : ℕ) (w : Width) (a : ℕ) (m : Machine) → perform v (load w a) m ≡ performed (loaded w (m .memory) a) m
+pub perform-load : (v : ℕ) (w : Width) (a : ℕ) (m : Machine) → perform v (load w a) m ≡ performed (loaded w (m .memory) a) m
 unfolding perform load
 perform-load v w a m = refl
 
