@@ -1,15 +1,17 @@
 ! The replay machine for a TMS 9980A with a TMS 9901, for Fortran. What is lent, what the answers mean and what a caller
 ! owes stands in tms_replay.h. The names are those of C, but for two arguments: `stop_at` is `stop` there, and
-! `block_number` is `block`. The places of a state's words and of a run's counts are counted from 1, in C from 0. Compile
-! this file with the program, and link target/staticlib/libtms_replay.a, which `rt staticlib tms_replay` writes.
+! `block_number` is `block`. The places of a state's words, of a run's counts and of the numbers about a line are counted
+! from 1, in C from 0. Compile this file with the program, and link target/staticlib/libtms_replay.a, which
+! `rt staticlib tms_replay` writes.
 
 module tms_replay
   use, intrinsic :: iso_c_binding, only: c_int8_t, c_int16_t, c_int32_t, c_int64_t, c_size_t
   implicit none
 
-  ! Sizes: the memory's and an image's bytes, a state's words, a run's counts.
-  integer(c_size_t), parameter :: tms_memory_size = 16384, tms_image_size = 17408
-  integer, parameter :: tms_state_words = 12, tms_counts = 2
+  ! Sizes: the memory's and an image's bytes, the bytes that a line may need, a state's words, a run's counts, the
+  ! numbers about a line.
+  integer(c_size_t), parameter :: tms_memory_size = 16384, tms_image_size = 17408, tms_line_size = 48
+  integer, parameter :: tms_state_words = 12, tms_counts = 2, tms_line_answer = 2
 
   ! The words of a state, each a number from 0 to 65535.
   integer, parameter :: tms_wp = 1, tms_pc = 2, tms_st = 3, tms_flags = 4, tms_mask = 5, tms_direction = 6, &
@@ -18,11 +20,14 @@ module tms_replay
   ! A run's counts.
   integer, parameter :: tms_steps = 1, tms_unassigned = 2
 
+  ! The numbers about a line.
+  integer, parameter :: tms_length = 1, tms_words = 2
+
   ! The answers.
   integer(c_int16_t), parameter :: tms_accepted = 0, tms_memory = 1, tms_state = 2, tms_records = 3, tms_image = 5, &
-      tms_block_check = 6, tms_block_number = 7, tms_format = 8, tms_fields = 9
+      tms_block_check = 6, tms_block_number = 7, tms_format = 8, tms_fields = 9, tms_text = 11
 
-  ! Fortran has no unsigned integers: bytes, records and the stop address are given by their bits.
+  ! Fortran has no unsigned integers: bytes, records and addresses are given by their bits.
   interface
     function tms_power_up(memory, memory_len, state) bind(c)
       import
@@ -64,6 +69,17 @@ module tms_replay
       integer(c_int8_t), intent(inout) :: image(*)
       integer(c_size_t), value :: image_len
       integer(c_int16_t) :: tms_write_image
+    end function
+
+    function tms_list(memory, memory_len, address, text, text_len, answer) bind(c)
+      import
+      integer(c_int8_t), intent(in) :: memory(*)
+      integer(c_size_t), value :: memory_len
+      integer(c_int16_t), value :: address
+      integer(c_int8_t), intent(inout) :: text(*)
+      integer(c_size_t), value :: text_len
+      integer(c_int32_t), intent(out) :: answer(tms_line_answer)
+      integer(c_int16_t) :: tms_list
     end function
   end interface
 end module

@@ -2,15 +2,15 @@
 
    Build it with `rt staticlib tms_replay`; link target/staticlib/libtms_replay.a.
 
-   Memory, image and records are lent: a pointer and the number of elements. A refusal changes
-   nothing that is lent, and a slice that is `const` is never changed. `state` after power up and
-   after reading an image, `counts` and `block` are places for the answer: whatever is in them is
-   replaced, on a refusal too. `state` of a run goes in and comes out: a refusal leaves it as it
-   was given, bit for bit.
+   Memory, image, records and text are lent: a pointer and the number of elements. A refusal
+   changes nothing that is lent, and a slice that is `const` is never changed. `state` after power
+   up and after reading an image, `counts`, `block` and `answer` are places for the answer: whatever
+   is in them is replaced, on a refusal too. `state` of a run goes in and comes out: a refusal
+   leaves it as it was given, bit for bit.
 
    What a caller owes: no pointer is null, not even that of an empty slice; each is aligned for its
    type; what is changed overlaps nothing else of the same call; `state` has 12 elements, `counts`
-   has 2. Nothing is kept after a call, and nothing is allocated.
+   and `answer` have 2. Nothing is kept after a call, and nothing is allocated.
 
    The contracts of the functions, proved for all arguments, stand in
    crates/tms_replay/src/exported.rt, the definitions that they cite in
@@ -27,11 +27,14 @@
 extern "C" {
 #endif
 
-/* Sizes: the memory's and an image's bytes, a state's words, a run's counts. */
+/* Sizes: the memory's and an image's bytes, the bytes that a line may need, a state's words, a
+   run's counts, the numbers about a line. */
 #define TMS_MEMORY_SIZE 16384
 #define TMS_IMAGE_SIZE 17408
+#define TMS_LINE_SIZE 48
 #define TMS_STATE_WORDS 12
 #define TMS_COUNTS 2
+#define TMS_LINE_ANSWER 2
 
 /* The words of a state: numbers of 16 bits, in elements of 32. */
 enum {
@@ -55,6 +58,12 @@ enum {
   TMS_UNASSIGNED /* how many of them met an unassigned word */
 };
 
+/* The numbers about a line. */
+enum {
+  TMS_LENGTH, /* the line's bytes */
+  TMS_WORDS   /* the words that its instruction takes, 1 to 3 */
+};
+
 /* The answers, checked in the order that each function names. */
 enum {
   TMS_ACCEPTED = 0,
@@ -65,7 +74,8 @@ enum {
   TMS_BLOCK_CHECK = 6,  /* a block's check is wrong */
   TMS_BLOCK_NUMBER = 7, /* a block's number is wrong */
   TMS_FORMAT = 8,       /* the format word or the edition is wrong */
-  TMS_FIELDS = 9        /* the fields are not well formed, or filler is not 0 */
+  TMS_FIELDS = 9,       /* the fields are not well formed, or filler is not 0 */
+  TMS_TEXT = 11         /* the buffer for a line has fewer than 48 bytes */
 };
 
 /* Power up: the blank PSI and the reset entry from blank registers. Leaves the state in `state`:
@@ -90,6 +100,14 @@ uint16_t tms_read_image(const uint8_t *image, size_t image_len, uint8_t *memory,
    was. Answers 1, 5, 2, 0. */
 uint16_t tms_write_image(const uint32_t state[TMS_STATE_WORDS], const uint8_t *memory,
                          size_t memory_len, uint8_t *image, size_t image_len);
+
+/* Writes one line about the instruction at `address`, whose lowest bit is dropped, to the start of
+   the buffer `text`, which has at least 48 bytes whatever the line: address, words, mnemonic and
+   operands, with neither a line feed nor a zero at the end. The bytes after the line stay. Leaves
+   the line's length and the number of words in `answer`; a refusal leaves `text` as it was and two
+   zeros. Answers 1, 11, 0. */
+uint16_t tms_list(const uint8_t *memory, size_t memory_len, uint16_t address, uint8_t *text,
+                  size_t text_len, uint32_t answer[TMS_LINE_ANSWER]);
 
 #ifdef __cplusplus
 }

@@ -1,5 +1,5 @@
-/* Powers up on a memory with a reset vector and a small program, runs it, carries the machine
-   through an image, runs on, and is refused in several ways. */
+/* Powers up on a memory with a reset vector and a small program, lists it, runs it, carries the
+   machine through an image, runs on, and is refused in several ways. */
 
 #include <inttypes.h>
 #include <stdio.h>
@@ -13,6 +13,8 @@ static uint32_t state[TMS_STATE_WORDS];
 static uint64_t counts[TMS_COUNTS];
 static uint32_t records[8];
 static uint32_t block;
+static uint8_t text[TMS_LINE_SIZE];
+static uint32_t listed[TMS_LINE_ANSWER];
 
 static void put(uint16_t at, uint16_t word) {
   memory[at] = word >> 8;
@@ -42,6 +44,13 @@ int main(void) {
   put(0x010A, 0x0000);
   for (size_t i = 0; i < 8; i++)
     records[i] = 0x003FFFFF; /* all pins high, no cycles */
+
+  /* Each line begins where the one before it ended. */
+  for (uint16_t at = 0x0100; at < 0x010C; at += 2 * listed[TMS_WORDS]) {
+    if (tms_list(memory, sizeof memory, at, text, sizeof text, listed) != TMS_ACCEPTED)
+      return 1; /* or a refusal's zeros would keep it here */
+    printf("%.*s\n", (int)listed[TMS_LENGTH], (const char *)text);
+  }
 
   line(tms_power_up(memory, sizeof memory, state));
   line(run(2));
@@ -74,5 +83,10 @@ int main(void) {
   state[TMS_PC] = 0x0100;
   answer = tms_run(memory, 0, state, records, 8, 1, 1, counts);
   printf("run %u pc %04" PRIX32 "\n", answer, state[TMS_PC]);
+
+  /* A buffer of 47 bytes is refused and stays as it was: the last line still stands in it. */
+  answer = tms_list(memory, sizeof memory, 0x0100, text, sizeof text - 1, listed);
+  printf("list %u length %" PRIu32 " words %" PRIu32 " text %.20s\n", answer, listed[TMS_LENGTH],
+         listed[TMS_WORDS], (const char *)text);
   return 0;
 }

@@ -1,5 +1,5 @@
-! Powers up on a memory with a reset vector and a small program, runs it, carries the machine through an image, runs on,
-! and is refused in several ways. The module tms_replay is include/tms_replay.f90.
+! Powers up on a memory with a reset vector and a small program, lists it, runs it, carries the machine through an image,
+! runs on, and is refused in several ways. The module tms_replay is include/tms_replay.f90.
 
 program powered
   use, intrinsic :: iso_c_binding
@@ -12,7 +12,9 @@ program powered
   integer(c_int64_t) :: counts(tms_counts) = 0
   integer(c_int32_t) :: records(8)
   integer(c_int32_t) :: block_number
-  integer(c_int16_t) :: answer
+  integer(c_int8_t) :: text(tms_line_size) = 0
+  integer(c_int32_t) :: listed(tms_line_answer)
+  integer(c_int16_t) :: answer, address
 
   ! The reset vector, then: LI R1,7FFFh; LI R2,1; A R1,R2; an unassigned word.
   call put(int(z'0000'), int(z'0300'))
@@ -24,6 +26,15 @@ program powered
   call put(int(z'0108'), int(z'A081'))
   call put(int(z'010A'), int(z'0000'))
   records = int(z'003FFFFF', c_int32_t) ! all pins high, no cycles
+
+  ! Each line begins where the one before it ended.
+  address = int(z'0100', c_int16_t)
+  do while (address < int(z'010C'))
+    answer = tms_list(memory, tms_memory_size, address, text, tms_line_size, listed)
+    if (answer /= tms_accepted) error stop ! or a refusal's zeros would keep it here
+    print '(*(a))', achar(text(:listed(tms_length)))
+    address = address + int(2 * listed(tms_words), c_int16_t)
+  end do
 
   answer = tms_power_up(memory, tms_memory_size, state)
   call line()
@@ -49,6 +60,11 @@ program powered
   call read_image(tms_image_size - 1)
   answer = tms_power_up(memory, tms_memory_size - 2, state)
   call line()
+
+  ! A buffer of 47 bytes is refused and stays as it was: the last line still stands in it.
+  answer = tms_list(memory, tms_memory_size, int(z'0100', c_int16_t), text, tms_line_size - 1, listed)
+  print '(a, i0, a, i0, a, i0, a, *(a))', 'list ', answer, ' length ', listed(tms_length), ' words ', listed(tms_words), &
+      ' text ', achar(text(:20))
 
 contains
 

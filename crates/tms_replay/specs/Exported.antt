@@ -1,4 +1,5 @@
--- The calls as C, Fortran and Rust see them: a state is an array of twelve numbers, counts are two numbers, a block one.
+-- The calls as C, Fortran and Rust see them: a state is an array of twelve numbers, counts are two numbers, so are a line's
+-- length and words, a block is one.
 use Prim.Native.Nat.{ℕ}
 use mathlib.Core.Path.{_≡_}
 use mathlib.Core.List.{List, [], _∷_}
@@ -7,6 +8,7 @@ use Rattle.bits.specs.Bits.{if_then_else_}
 use Rattle.machine.specs.Run as Run
 use Rattle.image_blocks.specs.Image as Image
 use Rattle.image.specs.Calls as Calls
+use Rattle.listing.specs.Listing as Listing
 use Rattle.state_array.specs.Arrays.{state-of}
 
 -- What a call answers and leaves where it was lent something to be changed.
@@ -74,3 +76,17 @@ pub record Written : Type 0 where
 unfoldable pub write : List ℕ → List ℕ → List ℕ → Written
 write w m img =
     record { number = Calls.write (state-of w) m img .answer .number; image = Calls.write (state-of w) m img .image }
+
+pub record Listed : Type 0 where
+  pub number : ℕ
+  pub text : List ℕ
+  pub answer : List ℕ
+
+-- the line of the instruction at an address: the line's length and the number of words, zeros on a refusal
+unfoldable pub list : List ℕ → ℕ → List ℕ → Listed
+list m a text =
+    record {
+      number = Listing.list m a text .answer .number;
+      text = Listing.list m a text .text;
+      answer = Listing.list m a text .answer .length ∷ Listing.list m a text .answer .words ∷ [];
+    }

@@ -9,6 +9,9 @@ use state_array::words_of;
 // A run's counts: the steps done, and how many of them met an unassigned word.
 pub const COUNTS: usize = 2;
 
+// The answer about a line: its length, and how many words its instruction takes.
+pub const LINE_ANSWER: usize = 2;
+
 // Power up on the lent memory.
 #[no_mangle]
 pub extern "C" fn tms_power_up(memory: &mut [u8], state: &mut [u32; STATE_WORDS]) -> u16
@@ -74,4 +77,22 @@ pub extern "C" fn tms_write_image(
 {
     let answer = super::write_image(state_of(*state), memory, image);
     answer.number
+}
+
+// Writes the line of the instruction at an address into the lent buffer.
+#[no_mangle]
+pub extern "C" fn tms_list(
+    memory: &[u8],
+    address: u16,
+    text: &mut [u8],
+    answer: &mut [u32; LINE_ANSWER],
+) -> u16
+    ensures { λ r. ⌜ r ≡ Exported.list (now (memory .entry)) address (now (text .entry)) .number ⌝ }
+    ensures { λ _. ⌜ now (text .exit) ≡ Exported.list (now (memory .entry)) address (now (text .entry)) .text ⌝ }
+    ensures { λ _. ⌜ now (answer .exit) ≡ Exported.list (now (memory .entry)) address (now (text .entry)) .answer ⌝ }
+{
+    let listed = super::list(memory, address, text);
+    let length = listed.length as u32;
+    *answer = [length, listed.words as u32];
+    listed.number
 }

@@ -1,9 +1,11 @@
-// The public calls: power up, run, read an image, write an image. Module `exported` has them for C, Fortran and Rust.
+// The public calls: power up, run, read an image, write an image, list an instruction. Module `exported` has them for C, Fortran and Rust.
 ghost use mathlib.Core.Path.{_≡_};
 ghost use Rattle.machine.specs.Run as Run;
 ghost use Rattle.image.specs.Calls as Calls;
+ghost use Rattle.listing.specs.Listing as Listing;
 use image::ReadAnswer;
 use image::WriteAnswer;
+use listing::ListAnswer;
 use machine::RunAnswer;
 use machine::State;
 use machine::StateAnswer;
@@ -39,4 +41,12 @@ pub fn write_image(state: State, bytes: &[u8], image: &mut [u8]) -> WriteAnswer
     ensures { λ _. ⌜ now (image .exit) ≡ Calls.write state (now (bytes .entry)) (now (image .entry)) .image ⌝ }
 {
     image::write_image(state, bytes, image)
+}
+
+// Writes the line of the instruction at an address into the lent buffer.
+pub fn list(bytes: &[u8], address: u16, text: &mut [u8]) -> ListAnswer
+    ensures { λ r. ⌜ r ≡ Listing.list (now (bytes .entry)) address (now (text .entry)) .answer ⌝ }
+    ensures { λ _. ⌜ now (text .exit) ≡ Listing.list (now (bytes .entry)) address (now (text .entry)) .text ⌝ }
+{
+    listing::list(bytes, address, text)
 }
