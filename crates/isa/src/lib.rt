@@ -448,13 +448,15 @@ fn immediate(word: u16) -> Instruction
 pub fn decode(word: u16) -> Instruction
     ensures { λ r. ⌜ r ≡ Isa.decoded word ⌝ }
 {
-    if word >= 0x4000 {
-        return dual(word);
-    }
-    if word >= 0x2000 {
-        return with_register(word);
-    }
+    // Split at 1000: behind six tests in a row the compiler takes the call of `immediate` for rare and keeps it, and then copies
+    // every answer through the stack.
     if word >= 0x1000 {
+        if word >= 0x4000 {
+            return dual(word);
+        }
+        if word >= 0x2000 {
+            return with_register(word);
+        }
         return with_displacement(word);
     }
     if word >= 0x0800 {
