@@ -11,12 +11,11 @@ use Rattle.isa.specs.declared.Instruction.the-variants as isa
 use Rattle.isa.specs.Isa.{decoded, further-words}
 use Rattle.isa.specs.Words.{General, Fields}
 use Rattle.isa.proofs.Words.{fields-in-range}
-use Rattle.text.specs.Texts.{ascii}
+use Rattle.text.specs.Texts.{ascii, decimal}
 use Rattle.text.proofs.Laws.{hex-length, decimal-length}
 use Rattle.notation.specs.declared.Words.{Words}
 use Rattle.notation.specs.declared.Notation.{Notation}
 use Rattle.notation.specs.declared.Written.{Written}
-use Rattle.notation.specs.declared.Written.the-variants as written
 use Rattle.notation.specs.declared.Operands.the-variants.{None, One, Two}
 use Rattle.notation.specs.Forms.{notation-of, general}
 use Rattle.mnemonics.proofs.Lengths.{name-short}
@@ -33,33 +32,21 @@ used-length : (n : ℕ) (ws : Words) → length (used n ws) ≤ 3
 unfolding used
 used-length n ws = rw (length-take) (omega arith)
 
--- no operand of an instruction's is longer than eleven bytes
-register-short : (r : ℕ) → r < 16 → length (Kinds.written (written.Register r)) ≤ 11
-unfolding Kinds.written
+-- no operand of an instruction's is longer than eleven bytes, of whichever kind
+register-short : (r : ℕ) → r < 16 → length (Kinds.register r) ≤ 11
 register-short r h = omega (arith, register-length 1 r (omega arith))
 
 general-short : (o : Operand) (w : ℕ) → General o → length (Kinds.written (general o w)) ≤ 11
 unfolding Kinds.written general
 general-short o w h = general-length 1 o _ (omega (arith, h .1))
 
-count-short : (n : ℕ) → n < 16 → length (Kinds.written (written.Count n)) ≤ 11
-unfolding Kinds.written
-count-short n h = omega (arith, decimal-length 1 n (omega arith))
-
-number-short : (n : ℕ) → n < 16 → length (Kinds.written (written.XopNumber n)) ≤ 11
-unfolding Kinds.written
+number-short : (n : ℕ) → n < 16 → length (decimal n) ≤ 11
 number-short n h = omega (arith, decimal-length 1 n (omega arith))
 
-displacement-short : (d : ℕ) → length (Kinds.written (written.CruDisplacement (d % 0x100))) ≤ 11
-unfolding Kinds.written
-displacement-short d = omega (arith, displacement-length (d % 0x100) (omega arith))
+displacement-short : (d : ℕ) → length (Kinds.displacement (d % 256)) ≤ 11
+displacement-short d = omega (arith, displacement-length (d % 256) (omega arith))
 
-target-short : (a : ℕ) → length (Kinds.written (written.Target a)) ≤ 11
-unfolding Kinds.written
-target-short a = rw (word-length) (omega arith)
-
-word-short : (w : ℕ) → length (Kinds.written (written.Word w)) ≤ 11
-unfolding Kinds.written
+word-short : (w : ℕ) → length (Kinds.word w) ≤ 11
 word-short w = rw (word-length) (omega arith)
 
 -- what follows the mnemonic: nothing, one operand or two
@@ -76,14 +63,14 @@ unfolding Kinds.operands ascii
 two x y h k = rw (length-append, length-append) (omega (arith, h, k))
 
 operands-length : (a : ℕ) (ws : Words) (i : Instruction) → Fields i → length (Kinds.operands (notation-of a ws i .operands)) ≤ 24
-unfolding notation-of
+unfolding notation-of Kinds.written
 operands-length a ws (isa.Dual op s d w) f = two _ _ (general-short s _ (f .0)) (general-short d _ (f .1))
 operands-length a ws (isa.Register op s r) f = two _ _ (general-short s _ (f .0)) (register-short r (f .1))
 operands-length a ws (isa.Xop s n) f = two _ _ (general-short s _ (f .0)) (number-short n (f .1))
-operands-length a ws (isa.Transfer op o n) f = two _ _ (general-short o _ (f .0)) (count-short n (f .1))
+operands-length a ws (isa.Transfer op o n) f = two _ _ (general-short o _ (f .0)) (number-short n (f .1))
 operands-length a ws (isa.Bit op d) f = one _ (displacement-short d)
-operands-length a ws (isa.Jump op d) f = one _ (target-short _)
-operands-length a ws (isa.Shift op r n) f = two _ _ (register-short r (f .0)) (count-short n (f .1))
+operands-length a ws (isa.Jump op d) f = one _ (word-short _)
+operands-length a ws (isa.Shift op r n) f = two _ _ (register-short r (f .0)) (number-short n (f .1))
 operands-length a ws (isa.Single op o) f = one _ (general-short o _ f)
 operands-length a ws (isa.Blwp o) f = one _ (general-short o _ f)
 operands-length a ws (isa.X o) f = one _ (general-short o _ f)
