@@ -4,7 +4,7 @@ ghost use mathlib.Core.Path.{_≡_};
 ghost use mathlib.Core.List.{[], _∷_};
 ghost use lib.ListN.{length};
 ghost use Rattle.memory.specs.Memory.{Installed};
-ghost use Rattle.text.specs.Texts.{Room, appended, empty};
+ghost use Rattle.text.specs.Texts.{Room, appended, empty, hex};
 ghost use Rattle.listing.specs.Listing as Listing;
 use memory::Width;
 use notation::Notation;
@@ -64,12 +64,19 @@ fn append_statement(text: Text, notation: Notation) -> Text
     operand_text::append_operands(named, operands)
 }
 
+// An address alone.
+fn address_alone(address: u16) -> Text
+    ensures { λ r. ⌜ r ≡ appended empty (hex address) ⌝ }
+{
+    text::append_hex(text::empty(), address)
+}
+
 // A line: address, words and instruction.
 fn line(address: u16, words: Words, further: u16, notation: Notation) -> Text
     ensures { λ r. ⌜ r ≡ appended empty (Listing.line address (Listing.used further words) notation) ⌝ }
 {
-    let addressed = text::append_hex(text::empty(), address);
-    let spaced = text::append(append_used(addressed, further, words), b" ");
+    let used = append_used(address_alone(address), further, words);
+    let spaced = text::append(used, b" ");
     append_statement(spaced, notation)
 }
 

@@ -1,8 +1,7 @@
 -- The address, the words, a space, then the instruction, all within the array.
-use mathlib.Core.Path.{_≡_}
 use native.Mathlib.Omega.{arith}
 use lib.ListN.{length-append}
-use Rattle.text.specs.Texts.{ascii, empty, appended, hex}
+use Rattle.text.specs.Texts.{ascii, empty}
 use Rattle.text.proofs.Laws.{hex-length, empty-room}
 use Rattle.text.proofs.Steps.{next-room, joined}
 use Rattle.listing.specs.Listing.{line}
@@ -11,33 +10,24 @@ use borrow.Author.Needs.{needs}
 use Rattle.listing.proofs.line.Statement.{statement}
 use Rattle.listing.proofs.line.Tie as tie
 
-append-hex-requires : tie.Need-append-hex-requires
-append-hex-requires c κs = rw (c .empty .ensures) (empty-room 4 (omega arith))
-
 append-used-requires : tie.Need-append-used-requires
 append-used-requires c κs =
-    let a = c .before .before .args .address in
-    let first : c .append-hex .result ≡ appended empty (hex a) = rw (← c .before .empty .ensures) (c .append-hex .ensures) in
-    next-room empty _ _ 15 54 first (empty-room 54 (omega arith)) (omega (arith, hex-length a))
+    next-room empty _ _ 15 54 (c .address-alone .ensures) (empty-room 54 (omega arith)) (omega (arith, hex-length (c .before .args .address)))
 
 append-requires : tie.Need-append-requires
 append-requires c κs =
-    let s = c .before .before .before .before in
-    let a = s .args .address in
-    let first : c .before .before .append-hex .result ≡ appended empty (hex a) = rw (← c .before .before .before .empty .ensures) (c .before .before .append-hex .ensures) in
+    let s = c .before .before .before in
     next-room _ _ _ 1 50 (c .before .append-used .ensures)
-    (next-room empty _ _ 50 54 first (empty-room 54 (omega arith)) (omega (arith, hex-length a)))
+    (next-room empty _ _ 50 54 (c .before .before .address-alone .ensures) (empty-room 54 (omega arith)) (omega (arith, hex-length (s .args .address))))
     (omega (arith, words-length (s .args .further) (s .args .words)))
 
 append-statement-requires : tie.Need-append-statement-requires
 append-statement-requires c κs =
     let used = c .before .before in
-    let s = used .before .before .before in
-    let a = s .args .address in
-    let first : used .before .append-hex .result ≡ appended empty (hex a) = rw (← used .before .before .empty .ensures) (used .before .append-hex .ensures) in
+    let s = used .before .before in
     next-room _ _ _ 34 35 (c .append .ensures)
     (next-room _ _ _ 35 50 (used .append-used .ensures)
-    (next-room empty _ _ 50 54 first (empty-room 54 (omega arith)) (omega (arith, hex-length a)))
+    (next-room empty _ _ 50 54 (used .before .address-alone .ensures) (empty-room 54 (omega arith)) (omega (arith, hex-length (s .args .address))))
     (omega (arith, words-length (s .args .further) (s .args .words))))
     (omega arith)
 
@@ -45,12 +35,10 @@ returns : tie.Need-returns
 unfolding line ascii
 returns c =
     let used = c .before .before .before in
-    let s = used .before .before .before in
-    let a = s .args .address in
-    let addressed = hex-length a in
+    let s = used .before .before in
+    let addressed = hex-length (s .args .address) in
     let listed = words-length (s .args .further) (s .args .words) in
-    let first : used .before .append-hex .result ≡ appended empty (hex a) = rw (← used .before .before .empty .ensures) (used .before .append-hex .ensures) in
-    let two = joined empty _ _ _ _ 54 first (used .append-used .ensures) (empty-room 54 (omega arith)) (omega (arith, addressed, listed)) in
+    let two = joined empty _ _ _ _ 54 (used .before .address-alone .ensures) (used .append-used .ensures) (empty-room 54 (omega arith)) (omega (arith, addressed, listed)) in
     let three = joined empty _ _ _ _ 54 two (c .before .append .ensures) (empty-room 54 (omega arith)) (rw (length-append) (omega (arith, addressed, listed))) in
     joined empty _ _ _ _ 54 three (c .append-statement .ensures .0) (empty-room 54 (omega arith))
     (rw (length-append, length-append) (omega (arith, addressed, listed, c .append-statement .ensures .1)))
@@ -60,7 +48,6 @@ line-spec =
     tie.close
     (tie.spec
     (λ c κs. search needs)
-    append-hex-requires
     append-used-requires
     (λ c. search needs)
     append-requires
