@@ -2,9 +2,12 @@
 -- letters, and two operands of at most eleven bytes behind a space and a comma.
 use Prim.Native.Nat.{ℕ, _+_, _*_, _/_, _%_, _≤_, _<_}
 use mathlib.Core.Path.{_≡_, refl}
+use mathlib.Core.Bool.{Bool, true, false}
 use mathlib.Core.List.{List, [], _∷_}
 use native.Mathlib.Omega.{arith}
+use lib.Dec.{eqb}
 use lib.ListN.{length, length-append, length-take}
+use Rattle.bits.specs.Bits.{if_then_else_}
 use Rattle.isa.specs.declared.Operand.{Operand}
 use Rattle.isa.specs.declared.Instruction.{Instruction}
 use Rattle.isa.specs.declared.Instruction.the-variants as isa
@@ -21,7 +24,7 @@ use Rattle.notation.specs.Forms.{notation-of, general}
 use Rattle.mnemonics.proofs.Lengths.{name-short}
 use Rattle.operand_text.specs.Kinds as Kinds
 use Rattle.operand_text.proofs.Lengths.{register-length, word-length, general-length, displacement-length}
-use Rattle.listing.specs.Listing.{spaced, used, statement, line, line-of, line-at, words-at}
+use Rattle.listing.specs.Listing.{spaced, used, statement, line, line-of, line-at, words-at, list-refusal, ListResult, list}
 
 pub spaced-length : (ws : List ℕ) → length (spaced ws) ≡ 5 * length ws
 unfolding spaced ascii
@@ -99,3 +102,12 @@ line-length a ws =
 pub line-short : (m : List ℕ) (a : ℕ) → length (line-at m a) ≤ 48
 unfolding line-at
 line-short m a = line-length (a / 2 * 2) (words-at m (a / 2 * 2))
+
+either : (b : Bool) (x y : ListResult) → x .answer .length ≤ 48 → y .answer .length ≤ 48 → (if b then x else y) .answer .length ≤ 48
+either true x y h k = h
+either false x y h k = k
+
+-- so is the length that a call reports; a refusal's is 0
+pub answer-short : (m : List ℕ) (a : ℕ) (text : List ℕ) → list m a text .answer .length ≤ 48
+unfolding list
+answer-short m a text = either (eqb (list-refusal m text) 0) _ _ (line-short m a) (omega arith)
