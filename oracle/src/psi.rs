@@ -102,14 +102,17 @@ impl Psi {
 
     // ---- the clock ----
 
-    /// Lets `cycles` φ cycles pass.
+    /// Lets `cycles` φ cycles pass. Any words will do, well formed or not.
     pub fn advance(&mut self, cycles: u32) {
-        let total = u32::from(self.phase) + cycles;
-        self.phase = (total % u32::from(Psi::CYCLES_PER_TICK)) as u16;
-        for _ in 0..total / u32::from(Psi::CYCLES_PER_TICK) {
+        // The sum may be more than 32 bits hold.
+        let total = u64::from(self.phase) + u64::from(cycles);
+        let ticks = total / u64::from(Psi::CYCLES_PER_TICK);
+        self.phase = (total % u64::from(Psi::CYCLES_PER_TICK)) as u16;
+        for _ in 0..ticks {
             self.tick();
         }
-        if !self.control() {
+        // Each tick does this; only the last is seen.
+        if ticks != 0 && !self.control() {
             self.refresh_read_register();
         }
     }

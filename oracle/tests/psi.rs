@@ -95,6 +95,26 @@ fn codes() {
     }
 }
 
+/// One cycle, as the rules tell it.
+fn cycle(psi: &mut Psi) {
+    if psi.phase != 63 {
+        psi.phase += 1;
+        return;
+    }
+    psi.phase = 0;
+    psi.decrementer = match psi.decrementer {
+        0 if psi.load == 0 => 16383,
+        0 => psi.load,
+        value => value - 1,
+    };
+    if psi.decrementer == 0 && psi.load != 0 {
+        psi.pending = 1;
+    }
+    if psi.control_and_masks % 2 == 0 {
+        psi.read_register = psi.decrementer;
+    }
+}
+
 #[test]
 fn the_clock_against_single_cycles() {
     let mut random = Random(5);
@@ -119,22 +139,7 @@ fn the_clock_against_single_cycles() {
             };
             psi.advance(count);
             for _ in 0..count {
-                if slow.phase == 63 {
-                    slow.phase = 0;
-                    slow.decrementer = match slow.decrementer {
-                        0 if slow.load == 0 => 16383,
-                        0 => slow.load,
-                        value => value - 1,
-                    };
-                    if slow.decrementer == 0 && slow.load != 0 {
-                        slow.pending = 1;
-                    }
-                } else {
-                    slow.phase += 1;
-                }
-                if control == 0 {
-                    slow.read_register = slow.decrementer;
-                }
+                cycle(&mut slow);
             }
             assert_eq!(psi, slow);
             if random.below(4) == 0 {
@@ -180,6 +185,189 @@ fn clock_period_is_load_plus_one() {
         }
         assert_eq!(ticks[0], load + 1);
         assert!(ticks.windows(2).all(|pair| pair[1] - pair[0] == load + 1));
+    }
+}
+
+/// Clocks of some loads and values, with all phases in `phases`, in both modes
+/// and with pending 0, 1 and 5. The read register is neither load nor value.
+fn clocks(phases: &[u16]) -> Vec<Psi> {
+    let mut clocks = Vec::new();
+    for load in [0u16, 1, 2, 3, 16383, 65535] {
+        for decrementer in [0, 1, 2, load, load.wrapping_add(1), load.wrapping_add(2), 65535] {
+            for &phase in phases {
+                for control_and_masks in [0xFFFE, 0xFFFF] {
+                    for pending in [0, 1, 5] {
+                        clocks.push(Psi {
+                            control_and_masks,
+                            directions: 0xF0F0,
+                            latches: 0x5050,
+                            load,
+                            decrementer,
+                            read_register: 777,
+                            phase,
+                            pending,
+                        });
+                    }
+                }
+            }
+        }
+    }
+    clocks
+}
+
+#[test]
+fn advancing_in_one_call_is_advancing_cycle_by_cycle() {
+    for start in clocks(&[0, 1, 40, 63]) {
+        let mut by_ones = start;
+        let mut by_rules = start;
+        for count in 0..2000 {
+            let mut at_once = start;
+            at_once.advance(count);
+            assert_eq!(at_once, by_ones, "{count} from {start:?}");
+            assert_eq!(at_once, by_rules, "{count} from {start:?}");
+            by_ones.advance(1);
+            cycle(&mut by_rules);
+        }
+    }
+}
+
+#[test]
+fn advancing_twice_is_advancing_by_the_sum() {
+    let mut random = Random(6);
+    let check = |start: Psi, first: u32, second: u32| {
+        let mut once = start;
+        once.advance(first + second);
+        let mut twice = start;
+        twice.advance(first);
+        twice.advance(second);
+        assert_eq!(once, twice, "{first} + {second} from {start:?}");
+    };
+    for start in clocks(&[0, 63]) {
+        for limit in [2, 64, 65, 1024, 200_000] {
+            let (first, second) = (random.below(limit) as u32, random.below(limit) as u32);
+            check(start, first, second);
+        }
+    }
+    // Any words, with counts that add up to the largest.
+    for _ in 0..4 {
+        let start = Psi {
+            control_and_masks: random.word(),
+            load: random.word(),
+            decrementer: random.word(),
+            read_register: random.word(),
+            phase: random.below(64) as u16,
+            pending: random.word(),
+            ..Psi::BLANK
+        };
+        let first = random.record();
+        check(start, first, u32::MAX - first);
+    }
+}
+
+#[test]
+fn the_largest_count() {
+    // 63 + 4294967295 = 64 * 67108864 + 62, and 67108864 = 4096 * 16384.
+    // Each case: load, value, and value and pending after.
+    let cases = [
+        // Whole rounds of 16384.
+        (0, 0, 0, 0),
+        (0, 5, 5, 0),
+        // After the 20000 ticks to 0 there are 67088864, 4094 rounds and 12768: 16384 - 12768.
+        (0, 20000, 3616, 0),
+        // Whole rounds of 2.
+        (1, 0, 0, 1),
+        (1, 1, 1, 1),
+        // After the 2 ticks to 0 again an even number.
+        (1, 2, 0, 1),
+        // 22369621 rounds of 3 and one tick.
+        (2, 0, 2, 1),
+        // Whole rounds of 16384 and of 65536.
+        (16383, 0, 0, 1),
+        (65535, 7, 7, 1),
+    ];
+    for (load, decrementer, after, pending) in cases {
+        let start = Psi {
+            load,
+            decrementer,
+            read_register: 777,
+            phase: 63,
+            ..Psi::BLANK
+        };
+        let mut psi = start;
+        psi.advance(u32::MAX);
+        assert_eq!(
+            psi,
+            Psi {
+                decrementer: after,
+                read_register: after,
+                phase: 62,
+                pending,
+                ..start
+            }
+        );
+    }
+    // One tick less from phase 0, so the last round lacks the tick to 0.
+    let mut psi = Psi::BLANK;
+    psi.advance(u32::MAX);
+    assert_eq!((psi.decrementer, psi.phase), (1, 63));
+}
+
+#[test]
+fn without_a_tick_only_the_phase_moves() {
+    for start in clocks(&[0, 1, 40, 63]) {
+        let mut psi = start;
+        psi.advance(0);
+        assert_eq!(psi, start);
+        psi.advance(u32::from(63 - start.phase));
+        assert_eq!(psi, Psi { phase: 63, ..start });
+        psi.advance(1);
+        let read = if start.control() { 777 } else { psi.decrementer };
+        assert_eq!((psi.read_register, psi.phase), (read, 0));
+    }
+}
+
+#[test]
+fn a_pending_of_5_stays_until_it_becomes_1() {
+    let start = Psi {
+        load: 2,
+        decrementer: 2,
+        pending: 5,
+        ..Psi::BLANK
+    };
+    let mut psi = start;
+    psi.advance(127);
+    assert_eq!((psi.decrementer, psi.pending), (1, 5));
+    psi.advance(1);
+    assert_eq!((psi.decrementer, psi.pending), (0, 1));
+    // Neither reloading nor becoming 0 with a load of 0 touches it.
+    let mut psi = Psi {
+        decrementer: 0,
+        ..start
+    };
+    psi.advance(64);
+    assert_eq!((psi.decrementer, psi.pending), (2, 5));
+    // 2 ticks to 0, a round of 16384, and 3614 more.
+    let mut psi = Psi { load: 0, ..start };
+    psi.advance(64 * 20000);
+    assert_eq!((psi.decrementer, psi.pending), (12770, 5));
+}
+
+#[test]
+fn the_clock_takes_words_as_they_stand() {
+    for (load, decrementer, after) in [
+        (65535, 0, 65535),
+        (16384, 0, 16384),
+        (1, 65535, 65534),
+        (0, 16384, 16383),
+        (65535, 16384, 16383),
+    ] {
+        let mut psi = Psi {
+            load,
+            decrementer,
+            ..Psi::BLANK
+        };
+        psi.advance(64);
+        assert_eq!((psi.load, psi.decrementer, psi.pending), (load, after, 0));
     }
 }
 
