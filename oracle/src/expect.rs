@@ -47,13 +47,15 @@ impl Sum {
 }
 
 /// The words of a state, in the image's order.
-fn words_of(state: &State) -> [u16; 12] {
-    let psi = &state.psi;
+fn words_of(state: &State) -> impl Iterator<Item = u16> {
+    [state.wp, state.pc, state.st, state.flags]
+        .into_iter()
+        .chain(words_of_psi(&state.psi))
+}
+
+/// The words of a PSI, in the image's order.
+fn words_of_psi(psi: &Psi) -> [u16; 8] {
     [
-        state.wp,
-        state.pc,
-        state.st,
-        state.flags,
         psi.control_and_masks,
         psi.directions,
         psi.latches,

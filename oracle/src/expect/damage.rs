@@ -62,7 +62,7 @@ fn among(seeds: &mut Seeds, first: usize, count: u16) -> usize {
 pub fn damage(image: &mut [u8], seeds: &mut Seeds, state: State, kind: u16, place: u16) {
     if kind < WAYS {
         let bad = spoiled(seeds, state, kind);
-        for (n, word) in words_of(&bad).into_iter().enumerate() {
+        for (n, word) in words_of(&bad).enumerate() {
             put(image, 0, 3 + n, word);
         }
         mend(image, 0);
