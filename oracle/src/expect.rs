@@ -2,6 +2,7 @@
 //! sides make the same inputs from the same seeds, and print sums of what comes
 //! of them.
 
+mod clock;
 mod damage;
 mod images;
 mod listing;
@@ -16,6 +17,7 @@ use crate::{State, MEMORY_SIZE};
 /// The expected output of a test program, if there is one of that name.
 pub fn expect(name: &str) -> Option<String> {
     match name {
+        "test_clock" => Some(clock::expect()),
         "test_images" => Some(images::expect()),
         "test_listing" => Some(listing::expect()),
         "test_runs" => Some(runs::expect()),
@@ -39,10 +41,18 @@ impl Sum {
         }
     }
 
-    fn mix_state(&mut self, state: &State) {
-        for word in words_of(state) {
+    fn mix_words(&mut self, words: impl IntoIterator<Item = u16>) {
+        for word in words {
             self.mix(u32::from(word));
         }
+    }
+
+    fn mix_psi(&mut self, psi: &Psi) {
+        self.mix_words(words_of_psi(psi));
+    }
+
+    fn mix_state(&mut self, state: &State) {
+        self.mix_words(words_of(state));
     }
 }
 
