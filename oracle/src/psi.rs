@@ -104,7 +104,7 @@ impl Psi {
 
     /// Lets `cycles` φ cycles pass. Any words will do, well formed or not.
     pub fn advance(&mut self, cycles: u32) {
-        // The sum may be more than 32 bits hold.
+        // The sum may need more than 32 bits.
         let total = u64::from(self.phase) + u64::from(cycles);
         let ticks = total / u64::from(Psi::CYCLES_PER_TICK);
         self.phase = (total % u64::from(Psi::CYCLES_PER_TICK)) as u16;

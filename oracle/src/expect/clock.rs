@@ -1,5 +1,7 @@
-//! The clock advanced from many starts, well formed or not: first by counts of
-//! cycles around the places where it becomes 0, then by counts of all 32 bits.
+//! The clock advanced from many starts, well formed or not. The counts of cycles:
+//! in the first part about half lie around the places where it becomes 0, and the
+//! others are a record's or any 16-bit number of ticks; in the second part they
+//! are of all 32 bits.
 
 use std::fmt::Write;
 
@@ -39,8 +41,8 @@ fn start(seeds: &mut Seeds, load: u16) -> Psi {
     start
 }
 
-/// Ticks until the clock is 0, now or some rounds later, or at most two less or
-/// one more.
+/// Ticks until the clock is 0, the first time or up to three rounds later, or at
+/// most two less or one more.
 fn ticks_to_edge(seeds: &mut Seeds, start: &Psi) -> u32 {
     let largest = if start.load == 0 {
         Psi::CLOCK_MAX
