@@ -232,6 +232,41 @@ fn advancing_in_one_call_is_advancing_cycle_by_cycle() {
 }
 
 #[test]
+fn a_phase_above_63_makes_ticks_without_a_cycle() {
+    // 200 = 3 * 64 + 8.
+    let start = Psi {
+        load: 5,
+        decrementer: 5,
+        phase: 200,
+        ..Psi::BLANK
+    };
+    let mut psi = start;
+    psi.advance(0);
+    assert_eq!(
+        psi,
+        Psi {
+            decrementer: 2,
+            read_register: 2,
+            phase: 8,
+            ..start
+        }
+    );
+    // It stands for as many cycles from phase 0.
+    for start in clocks(&[64, 200, 65535]) {
+        let mut by_rules = Psi { phase: 0, ..start };
+        for _ in 0..start.phase {
+            cycle(&mut by_rules);
+        }
+        for count in 0..70 {
+            let mut at_once = start;
+            at_once.advance(count);
+            assert_eq!(at_once, by_rules, "{count} from {start:?}");
+            cycle(&mut by_rules);
+        }
+    }
+}
+
+#[test]
 fn advancing_twice_is_advancing_by_the_sum() {
     let mut random = Random(6);
     let check = |start: Psi, first: u32, second: u32| {
@@ -242,20 +277,21 @@ fn advancing_twice_is_advancing_by_the_sum() {
         twice.advance(second);
         assert_eq!(once, twice, "{first} + {second} from {start:?}");
     };
-    for start in clocks(&[0, 63]) {
+    for start in clocks(&[0, 63, 64, 200, 65535]) {
+        check(start, 0, 0);
         for limit in [2, 64, 65, 1024, 200_000] {
             let (first, second) = (random.below(limit) as u32, random.below(limit) as u32);
             check(start, first, second);
         }
     }
     // Any words, with counts that add up to the largest.
-    for _ in 0..4 {
+    for phase in [0, 63, 200, 65535] {
         let start = Psi {
             control_and_masks: random.word(),
             load: random.word(),
             decrementer: random.word(),
             read_register: random.word(),
-            phase: random.below(64) as u16,
+            phase,
             pending: random.word(),
             ..Psi::BLANK
         };

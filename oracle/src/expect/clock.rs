@@ -38,6 +38,9 @@ fn start(seeds: &mut Seeds, load: u16) -> Psi {
     if seeds.once_in(8) {
         start.pending = seeds.word();
     }
+    if seeds.once_in(8) {
+        start.phase = seeds.word();
+    }
     start
 }
 
