@@ -1,63 +1,51 @@
--- A tick leaves the phase and the load alone, so ticks and phase go their own ways; m + n cycles have the ticks of m cycles and
--- then those of n. Counting down from d takes d ticks, and pending is set by the last of them.
+-- Most is read off the law of ticks at once: ticks leave the phase alone, so m + n cycles have the ticks of m cycles and then those of
+-- n; pending comes with the first tick that brings the decrementer to 0. A period goes down to 0, to the largest value, and down again.
 use Prim.Native.Nat.{ℕ, zero, suc, _+_, _-_, _/_, _%_, _<_, _≤_}
-use mathlib.Core.Path.{_≡_, refl, sym, ap, subst, _∙_}
-use mathlib.Core.Bool.{Bool, true, false}
+use mathlib.Core.Path.{_≡_, refl, sym, ap, _∙_}
+use mathlib.Core.Bool.{not, and-true}
 use native.Mathlib.Omega.{arith}
-use native.Mathlib.Nat.{add-zero, add-suc}
+use native.Mathlib.Nat.{add-zero, add-suc, mod-eq-of-lt}
 use native.Mathlib.Numerals.{add-one}
-use borrow.Author.Tests.{eq-eqb, ne-eqb}
+use lib.Dec.{eqb}
+use borrow.Author.Tests.{ne-eqb, le-leb}
 use Rattle.bits.specs.Bits.{if_then_else_}
 use Rattle.psi.specs.declared.Psi.{Psi}
-use Rattle.psi.specs.Psi.{with-phase, with-count, refreshed, control}
-use Rattle.psi.specs.Clock.{counted, pended, followed, tick, ticks, advanced}
-use Rattle.psi.specs.ClockLaws.{CycleByCycle, PendingAt, CountsDown, Period}
+use Rattle.psi.specs.Psi.{control, with-phase, with-pending}
+use Rattle.psi.specs.Clock.{followed, ticks, advanced}
+use Rattle.psi.specs.AtOnce.{largest, period, count-after, first-zero, pending-after}
+use Rattle.psi.specs.ClockLaws.{CycleByCycle, PendingAt, CountsDown, Period, WholePeriod}
 use Rattle.psi.proofs.Cases.{either-way}
+use Rattle.psi.proofs.AtOnce.{after, going-round, first-of-fall, first-of-round, zero-at-first, pending-set, pending-still, after-none, ticks-at-once}
 
--- what a tick makes of each field that the clock's laws speak of
+-- what following the decrementer leaves alone
 module _ (p : Psi) where
-  pub tick-phase : tick p .phase ≡ p .phase
-  unfolding tick followed
-  tick-phase = either-way (λ (q : Psi). q .phase ≡ p .phase) (control p) (λ e. refl) (λ e. refl)
+  followed-count : followed p .decrementer ≡ p .decrementer
+  unfolding followed
+  followed-count = either-way (λ (q : Psi). q .decrementer ≡ p .decrementer) (control p) (λ e. refl) (λ e. refl)
 
-  pub tick-load : tick p .load ≡ p .load
-  unfolding tick followed
-  tick-load = either-way (λ (q : Psi). q .load ≡ p .load) (control p) (λ e. refl) (λ e. refl)
+  followed-pending : followed p .pending ≡ p .pending
+  unfolding followed
+  followed-pending = either-way (λ (q : Psi). q .pending ≡ p .pending) (control p) (λ e. refl) (λ e. refl)
 
-  pub tick-count : tick p .decrementer ≡ counted p
-  unfolding tick followed
-  tick-count = either-way (λ (q : Psi). q .decrementer ≡ counted p) (control p) (λ e. refl) (λ e. refl)
-
-  pub tick-pending : tick p .pending ≡ pended p
-  unfolding tick followed
-  tick-pending = either-way (λ (q : Psi). q .pending ≡ pended p) (control p) (λ e. refl) (λ e. refl)
-
-  tick-with-phase : (x : ℕ) → tick (with-phase x p) ≡ with-phase x (tick p)
-  unfolding tick followed counted pended
-  tick-with-phase x = go (control p)
-    where
-      go :
-          (b : Bool) →
-          (if b then with-count (counted p) (pended p) (with-phase x p) else refreshed (with-count (counted p) (pended p) (with-phase x p)))
-          ≡ with-phase x (if b then with-count (counted p) (pended p) p else refreshed (with-count (counted p) (pended p) p))
-      go true = refl
-      go false = refl
+  followed-with-phase : (x : ℕ) → followed (with-phase x p) ≡ with-phase x (followed p)
+  unfolding followed
+  followed-with-phase x = either-way (λ (q : Psi). q ≡ with-phase x (followed p)) (control p) (λ e. rw e) (λ e. rw e)
 
 module _ (p : Psi) where
-  pub ticks-phase : (n : ℕ) → ticks n p .phase ≡ p .phase
+  ticks-count : (n : ℕ) → ticks n p .decrementer ≡ count-after n p
   unfolding ticks
-  ticks-phase zero = refl
-  ticks-phase (suc n) = tick-phase (ticks n p) ∙ ticks-phase n
+  ticks-count zero = ap (λ (q : Psi). q .decrementer) (sym (after-none p))
+  ticks-count (suc n) = rw (ticks-at-once (suc n) p (omega arith)) (followed-count (after (suc n) p))
 
-  pub ticks-load : (n : ℕ) → ticks n p .load ≡ p .load
+  ticks-pending : (n : ℕ) → ticks n p .pending ≡ pending-after n p
   unfolding ticks
-  ticks-load zero = refl
-  ticks-load (suc n) = tick-load (ticks n p) ∙ ticks-load n
+  ticks-pending zero = ap (λ (q : Psi). q .pending) (sym (after-none p))
+  ticks-pending (suc n) = rw (ticks-at-once (suc n) p (omega arith)) (followed-pending (after (suc n) p))
 
   ticks-with-phase : (x n : ℕ) → ticks n (with-phase x p) ≡ with-phase x (ticks n p)
-  unfolding ticks
+  unfolding ticks largest count-after first-zero pending-after
   ticks-with-phase x zero = refl
-  ticks-with-phase x (suc n) = rw (ticks-with-phase x n) (tick-with-phase (ticks n p) x)
+  ticks-with-phase x (suc n) = rw (ticks-at-once (suc n) (with-phase x p) (omega arith), ticks-at-once (suc n) p (omega arith)) (followed-with-phase (after (suc n) p) x)
 
   ticks-sum : (m n : ℕ) → ticks (m + n) p ≡ ticks n (ticks m p)
   unfolding ticks
@@ -99,85 +87,43 @@ cycle-by-cycle =
       apart = advanced-sum;
     }
 
--- one tick of a clock with a load
-module _ (p : Psi) (loaded : 0 < p .load) where
-  counted-down : 0 < p .decrementer → counted p ≡ p .decrementer - 1
-  unfolding counted
-  counted-down h = rw (ne-eqb (p .decrementer) 0 (λ e. omega arith))
-
-  counted-anew : p .decrementer ≡ 0 → counted p ≡ p .load
-  unfolding counted
-  counted-anew h = rw (eq-eqb (p .decrementer) 0 h, ne-eqb (p .load) 0 (λ e. omega arith))
-
-  pended-set : counted p ≡ 0 → pended p ≡ 1
-  unfolding pended
-  pended-set h = rw (ne-eqb (p .load) 0 (λ e. omega arith), eq-eqb (counted p) 0 h)
-
-  pended-still : 0 < counted p → pended p ≡ p .pending
-  unfolding pended
-  pended-still h = rw (ne-eqb (p .load) 0 (λ e. omega arith), ne-eqb (counted p) 0 (λ e. omega arith))
-
-module _ (p : Psi) (loaded : 0 < p .load) where
-  still-loaded : (k : ℕ) → 0 < ticks k p .load
-  still-loaded k = omega (arith, ticks-load p k)
-
-  down : (k : ℕ) → k ≤ p .decrementer → ticks k p .decrementer ≡ p .decrementer - k
-  unfolding ticks
-  down zero h = omega arith
-  down (suc k) h =
-      let past : ticks k p .decrementer ≡ p .decrementer - k = down k (omega arith) in
-      omega (arith, tick-count (ticks k p), counted-down (ticks k p) (still-loaded k) (omega arith))
-
-  quiet : p .pending ≡ 0 → (k : ℕ) → k < p .decrementer → ticks k p .pending ≡ 0
-  unfolding ticks
-  quiet none zero h = none
-  quiet none (suc k) h =
-      let here : ticks k p .decrementer ≡ p .decrementer - k = down k (omega arith) in
-      let next : counted (ticks k p) ≡ ticks k p .decrementer - 1 = counted-down (ticks k p) (still-loaded k) (omega arith) in
-      tick-pending (ticks k p)
-      ∙ pended-still (ticks k p) (still-loaded k) (omega arith)
-      ∙ quiet none k (omega arith)
-
-  reached : (d : ℕ) → p .decrementer ≡ d → 0 < d → ticks d p .pending ≡ 1
-  unfolding ticks
-  reached zero e h = absurd (omega arith)
-  reached (suc k) e h =
-      let here : ticks k p .decrementer ≡ p .decrementer - k = down k (omega arith) in
-      tick-pending (ticks k p)
-      ∙ pended-set (ticks k p) (still-loaded k) (omega (arith, counted-down (ticks k p) (still-loaded k) (omega arith)))
-
-pub counts-down : CountsDown
-counts-down p loaded none h =
-    record {
-      before = quiet p loaded none;
-      comes = reached p loaded (p .decrementer) refl h;
-      zero = omega (arith, down p loaded (p .decrementer) (omega arith));
-    }
-
-ticks-first : (p : Psi) (n : ℕ) → ticks (suc n) p ≡ ticks n (tick p)
-unfolding ticks
-ticks-first p zero = refl
-ticks-first p (suc n) = ap tick (ticks-first p n)
-
--- what holds after one tick holds one tick later before it
-module _ (p : Psi) (n : ℕ) (none : p .pending ≡ 0) (r : PendingAt n (tick p)) where
-  later-before : (k : ℕ) → k < n + 1 → ticks k p .pending ≡ 0
-  unfolding ticks
-  later-before zero h = none
-  later-before (suc k) h = ap (λ (q : Psi). q .pending) (ticks-first p k) ∙ r .before k (omega arith)
-
-  later : PendingAt (n + 1) p
-  later =
+-- pending comes with the first tick that brings the decrementer to 0
+module _ (p : Psi) (loaded : 0 < p .load) (none : p .pending ≡ 0) where
+  pending-at : (n : ℕ) → first-zero p ≡ n → PendingAt n p
+  pending-at n e =
       record {
-        before = later-before;
-        comes = rw (add-one n, ticks-first p n) (r .comes);
-        zero = rw (add-one n, ticks-first p n) (r .zero);
+        before = λ k h. ticks-pending p k ∙ pending-still p k (omega arith) ∙ none;
+        comes = ticks-pending p n ∙ pending-set p n loaded (omega arith);
+        zero = ticks-count p n ∙ rw (← e) (zero-at-first p);
       }
 
--- from 0 the first tick brings the load, which then counts down
-pub period : Period
-period p loaded none h =
-    let anew : tick p .decrementer ≡ p .load = tick-count p ∙ counted-anew p loaded h in
-    let still : tick p .pending ≡ 0 = tick-pending p ∙ pended-still p loaded (omega (arith, counted-anew p loaded h)) ∙ none in
-    let rest : PendingAt (tick p .decrementer) (tick p) = counts-down (tick p) (omega (arith, tick-load p)) still (omega arith) in
-    later p (p .load) none (subst (λ (n : ℕ). PendingAt n (tick p)) anew rest)
+largest-loaded : (p : Psi) → 0 < p .load → largest p ≡ p .load
+unfolding largest
+largest-loaded p h = rw (ne-eqb (p .load) 0 (λ e. omega arith))
+
+pub counts-down : CountsDown
+counts-down p loaded none h = pending-at p loaded none (p .decrementer) (first-of-fall p h)
+
+pub comes-round : Period
+comes-round p loaded none h = pending-at p loaded none (p .load + 1) (omega (arith, first-of-round p h, largest-loaded p loaded))
+
+-- a period later
+module _ (p : Psi) (h : p .decrementer ≤ largest p) where
+  same-count : count-after (period p) p ≡ p .decrementer
+  same-count =
+      let m : ℕ = largest p - p .decrementer in
+      omega (arith, going-round p m (period p) (omega arith), mod-eq-of-lt {n = m} {m = period p} (omega arith))
+
+  first-within : first-zero p ≤ period p
+  unfolding first-zero
+  first-within = either-way (λ (n : ℕ). n ≤ period p) (eqb (p .decrementer) 0) (λ e. omega arith) (λ e. omega arith)
+
+  flag-by-load : pending-after (period p) p ≡ (if not (eqb (p .load) 0) then 1 else p .pending)
+  unfolding pending-after
+  flag-by-load = rw (le-leb (first-zero p) (period p) first-within, and-true)
+
+pub whole-period : WholePeriod
+unfolding followed
+whole-period p h r =
+    rw (ticks-at-once (period p) p (omega arith), same-count p h, flag-by-load p h)
+    (either-way (λ (q : Psi). q ≡ with-pending (if not (eqb (p .load) 0) then 1 else p .pending) p) (control p) (λ e. refl) (λ e. rw (r e)))

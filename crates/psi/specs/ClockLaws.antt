@@ -1,9 +1,13 @@
 -- What the clock's definitions come to: the clock cycle by cycle, and its period.
-use Prim.Native.Nat.{ℕ, suc, _+_, _-_, _<_}
+use Prim.Native.Nat.{ℕ, suc, _+_, _-_, _<_, _≤_}
 use mathlib.Core.Path.{_≡_}
+use mathlib.Core.Bool.{false, not}
+use lib.Dec.{eqb}
+use Rattle.bits.specs.Bits.{if_then_else_}
 use Rattle.psi.specs.declared.Psi.{Psi}
-use Rattle.psi.specs.Psi.{tick-cycles, with-phase}
+use Rattle.psi.specs.Psi.{tick-cycles, control, with-phase, with-pending}
 use Rattle.psi.specs.Clock.{tick, ticks, advanced}
+use Rattle.psi.specs.AtOnce.{largest, period}
 
 -- Cycle by cycle: a cycle lets the phase rise by 1, and as it goes from 63 to 0 there is one tick; more cycles are these,
 -- one after the other.
@@ -27,3 +31,10 @@ CountsDown = (p : Psi) → 0 < p .load → p .pending ≡ 0 → 0 < p .decrement
 -- From 0, with pending cleared, it comes after N + 1 ticks: that is the period, since the decrementer is then 0 again.
 abbrev pub Period : Type 0
 Period = (p : Psi) → 0 < p .load → p .pending ≡ 0 → p .decrementer ≡ 0 → PendingAt (p .load + 1) p
+
+-- A whole period, with or without a load, changes nothing but pending, which a loaded clock has set by then. (The decrementer is not
+-- above its largest value, and the read register shows it where control is 0.)
+abbrev pub WholePeriod : Type 0
+WholePeriod =
+    (p : Psi) → p .decrementer ≤ largest p → (control p ≡ false → p .reading ≡ p .decrementer)
+    → ticks (period p) p ≡ with-pending (if not (eqb (p .load) 0) then 1 else p .pending) p

@@ -3,6 +3,7 @@ pub mod Clock
 pub mod Pins
 pub mod Cru
 pub mod Formed
+pub mod AtOnce
 pub mod ClockLaws
 pub mod RequestLaws
 pub mod Kept
