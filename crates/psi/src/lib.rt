@@ -100,7 +100,7 @@ const CYCLE: u32 = 1 << 22;
 // One pin record: 22 levels and the cycles before the step.
 pub struct Record {
     pub levels: u32,
-    pub cycles: u16,
+    pub cycles: u32,
 }
 
 // The parts of a record.
@@ -109,7 +109,7 @@ pub fn split(word: u32) -> Record
 {
     Record {
         levels: word % CYCLE,
-        cycles: (word / CYCLE) as u16,
+        cycles: word / CYCLE,
     }
 }
 
