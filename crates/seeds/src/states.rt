@@ -103,7 +103,7 @@ pub fn state(seed: &mut u32, flags: u16) -> State {
 }
 
 // The sum with the PSI's words more.
-fn mix_psi(sum: u32, psi: Psi) -> u32 {
+pub fn mix_psi(sum: u32, psi: Psi) -> u32 {
     let first = mix(mix(sum, psi.mask as u32), psi.direction as u32);
     let second = mix(mix(first, psi.latch as u32), psi.load as u32);
     let third = mix(mix(second, psi.decrementer as u32), psi.reading as u32);
