@@ -35,6 +35,50 @@ const CRU: [u16; 8] = [
     0x10F8, //        JMP  LOOP
 ];
 
+/// Operands in memory, bytes and jumps. The sum is never cleared, and its bytes change places, so that JL goes
+/// now one way, now the other, without a short period. All stores are to the workspace and to 0860h to 0905h.
+const MIXED: [u16; 42] = [
+    0x0201, 0x0800, // START  LI   R1,>0800         32 readings, words
+    0x0205, 0x0840, //        LI   R5,>0840         32 limits, bytes
+    0x04C2, //                CLR  R2               the reading's number
+    0xC0F1, //         NEXT   MOV  *R1+,R3          a reading
+    0x130C, //                JEQ  LOW              never: none is 0
+    0xA803, 0x0900, //        A    R3,@>0900        the sum
+    0x06E0, 0x0900, //        SWPB @>0900
+    0xD1A0, 0x0900, //        MOVB @>0900,R6        a byte of it
+    0x9D46, //                CB   R6,*R5+          and the limit
+    0x1A04, //                JL   LOW
+    0xB886, 0x0860, //        AB   R6,@>0860(R2)    reached: a sum of its own
+    0x06A0, 0x0140, //        BL   @SCALE
+    0xC1C2, //         LOW    MOV  R2,R7
+    0x0A17, //                SLA  R7,1
+    0x6267, 0x0800, //        S    @>0800(R7),R9    the reading again
+    0x0249, 0x7FFF, //        ANDI R9,>7FFF
+    0xC609, //                MOV  R9,*R8           R8 is 0902h
+    0x0582, //                INC  R2
+    0x0282, 0x0020, //        CI   R2,32
+    0x16E7, //                JNE  NEXT
+    0x0460, 0x0100, //        B    @START
+    0xC118, //         SCALE  MOV  *R8,R4
+    0x0944, //                SRL  R4,4
+    0x0224, 0x0123, //        AI   R4,>0123
+    0x9804, 0x0900, //        CB   R4,@>0900
+    0x1502, //                JGT  BACK
+    0xD804, 0x0904, //        MOVB R4,@>0904
+    0x045B, //         BACK   B    *R11
+];
+
+/// The first of the 32 readings, and of the 32 limits after them.
+const READINGS: u16 = 0x0800;
+
+/// What a loop's steps were.
+#[derive(Default, Debug)]
+struct Seen {
+    /// Conditional jumps, taken and not.
+    taken: usize,
+    untaken: usize,
+}
+
 pub struct Loop {
     pub name: &'static str,
     pub image: Vec<u8>,
@@ -42,18 +86,34 @@ pub struct Loop {
     pub records: Vec<u32>,
     /// The loop's code: the PC stays there, and it stays as it is.
     code: Range<u16>,
+    /// Whether the steps are of the kind that the name says.
+    is_as_named: fn(&Seen) -> bool,
 }
 
 pub fn registers() -> Loop {
-    plain("register instructions", &REGISTERS)
+    plain("register instructions", &REGISTERS, &[], |_| true)
 }
 
 pub fn cru() -> Loop {
-    plain("CRU transfers", &CRU)
+    plain("CRU transfers", &CRU, &[], |_| true)
+}
+
+pub fn mixed() -> Loop {
+    let mut random = Random::new();
+    let mut words = vec![(WORKSPACE + 16, 0x0902)];
+    words.extend(
+        (READINGS..READINGS + 96)
+            .step_by(2)
+            .map(|at| (at, 1 + random.below(0xFFFF) as u16)),
+    );
+    plain("memory operands and jumps", &MIXED, &words, |seen| {
+        seen.taken > STEPS / 20 && seen.untaken > STEPS / 20
+    })
 }
 
 /// A machine at the program, the clock running with a load of 100, all masks 0, so that no step is an entry.
-fn plain(name: &'static str, program: &[u16]) -> Loop {
+/// `words`, addresses and what is there, come on top of the registers' arbitrary numbers.
+fn plain(name: &'static str, program: &[u16], words: &[(u16, u16)], is_as_named: fn(&Seen) -> bool) -> Loop {
     let mut memory = vec![0; MEMORY_SIZE];
     for (at, &word) in (START..).step_by(2).zip(program) {
         put(&mut memory, at, word);
@@ -62,6 +122,9 @@ fn plain(name: &'static str, program: &[u16]) -> Loop {
         put(&mut memory, WORKSPACE + 2 * n, 0x1234u16.wrapping_mul(2 * n + 1));
     }
     put(&mut memory, WORKSPACE + 24, 0x0020);
+    for &(at, word) in words {
+        put(&mut memory, at, word);
+    }
     let mut state = State {
         wp: WORKSPACE,
         pc: START,
@@ -78,6 +141,7 @@ fn plain(name: &'static str, program: &[u16]) -> Loop {
             .map(|_| random.below(39) << 22 | 0x003F_FFFF)
             .collect(),
         code: START..START + 2 * program.len() as u16,
+        is_as_named,
     }
 }
 
@@ -88,19 +152,34 @@ impl Loop {
         let mut state = oracle::read_image(&self.image, &mut memory).state;
         let masks = state.psi.control_and_masks;
         let before = memory;
+        let mut seen = Seen::default();
         for i in 0..STEPS {
             let pc = state.pc;
             assert!(self.code.contains(&pc), "{}: PC {pc:04X}", self.name);
+            let word = word(&memory, pc);
             let mut machine = Machine::new(&mut memory, state);
             let step = machine.step(self.records[i % PORTION]);
             state = machine.state();
-            assert_eq!(step, Step::Instruction, "{}: at {pc:04X}", self.name);
+            match step {
+                Step::Instruction => match word {
+                    0x1100..=0x1CFF if state.pc != pc + 2 => seen.taken += 1,
+                    0x1100..=0x1CFF => seen.untaken += 1,
+                    _ => {}
+                },
+                _ => panic!("{}: {step:?} at {pc:04X}", self.name),
+            }
         }
         for at in self.code.clone().map(usize::from) {
             assert_eq!(memory[at], before[at], "{}: at {at:04X}", self.name);
         }
         assert_eq!(state.psi.control_and_masks, masks, "{}", self.name);
+        assert!((self.is_as_named)(&seen), "{}: {seen:?}", self.name);
     }
+}
+
+fn word(memory: &[u8], at: u16) -> u16 {
+    let at = usize::from(at);
+    u16::from_be_bytes([memory[at], memory[at + 1]])
 }
 
 fn put(memory: &mut [u8], at: u16, word: u16) {

@@ -111,6 +111,7 @@ fn main() {
     let registers = loops::registers();
     measure(&registers);
     measure(&loops::cru());
+    measure(&loops::mixed());
     report(
         "images written and read",
         IMAGES,
