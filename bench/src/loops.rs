@@ -71,9 +71,31 @@ const MIXED: [u16; 42] = [
 /// The first of the 32 readings, and of the 32 limits after them.
 const READINGS: u16 = 0x0800;
 
+/// Four X, an ordinary instruction after each.
+const X: [u16; 9] = [
+    0x0485, //         LOOP   X    R5               A    R1,R2
+    0x0583, //                INC  R3
+    0x0486, //                X    R6               X    R5
+    0x0A14, //                SLA  R4,1
+    0x0497, //                X    *R7              INV  R9, at 0900h
+    0x2902, //                XOR  R2,R4
+    0x0488, 0x0123, //        X    R8               AI   R10,>0123: takes the word after X
+    0x10F7, //                JMP  LOOP
+];
+
+/// What those X find: R5 to R8, and the word at 0900h.
+const X_WORDS: [(u16, u16); 5] = [
+    (WORKSPACE + 10, 0xA081),
+    (WORKSPACE + 12, 0x0485),
+    (WORKSPACE + 14, 0x0900),
+    (WORKSPACE + 16, 0x022A),
+    (0x0900, 0x0549),
+];
+
 /// What a loop's steps were.
 #[derive(Default, Debug)]
 struct Seen {
+    x: usize,
     /// Conditional jumps, taken and not.
     taken: usize,
     untaken: usize,
@@ -109,6 +131,10 @@ pub fn mixed() -> Loop {
     plain("memory operands and jumps", &MIXED, &words, |seen| {
         seen.taken > STEPS / 20 && seen.untaken > STEPS / 20
     })
+}
+
+pub fn x() -> Loop {
+    plain("X", &X, &X_WORDS, |seen| seen.x == STEPS / 2)
 }
 
 /// A machine at the program, the clock running with a load of 100, all masks 0, so that no step is an entry.
@@ -162,6 +188,7 @@ impl Loop {
             state = machine.state();
             match step {
                 Step::Instruction => match word {
+                    0x0480..=0x04BF => seen.x += 1,
                     0x1100..=0x1CFF if state.pc != pc + 2 => seen.taken += 1,
                     0x1100..=0x1CFF => seen.untaken += 1,
                     _ => {}

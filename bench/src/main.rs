@@ -112,6 +112,7 @@ fn main() {
     measure(&registers);
     measure(&loops::cru());
     measure(&loops::mixed());
+    measure(&loops::x());
     report(
         "images written and read",
         IMAGES,
