@@ -92,9 +92,19 @@ const X_WORDS: [(u16, u16); 5] = [
     (0x0900, 0x0549),
 ];
 
+/// The measuring loop of `samples/`, in assembler notation in `oracle/src/sample.rs`.
+const SAMPLE: &[u8] = include_bytes!("../../samples/loop.image");
+
+/// Its end after 256 readings. A jump stands there instead, back to where the sum and the readings are
+/// cleared: so it runs for ever, and the clock is set up but once.
+const DONE: u16 = 0x012E;
+const AGAIN: u16 = 0x10F0; // JMP >0110
+
 /// What a loop's steps were.
 #[derive(Default, Debug)]
 struct Seen {
+    /// Interrupts entered, at level 1.
+    entries: usize,
     x: usize,
     /// Conditional jumps, taken and not.
     taken: usize,
@@ -106,8 +116,10 @@ pub struct Loop {
     pub image: Vec<u8>,
     /// One for each step of a portion; every portion has the same.
     pub records: Vec<u32>,
-    /// The loop's code: the PC stays there, and it stays as it is.
-    code: Range<u16>,
+    /// The loop's own code and its service routine: the PC stays there, and they stay as they are.
+    code: [Range<u16>; 2],
+    /// Where the service routine counts the timer's interrupts.
+    pub ticks: Option<u16>,
     /// Whether the steps are of the kind that the name says.
     is_as_named: fn(&Seen) -> bool,
 }
@@ -135,6 +147,27 @@ pub fn mixed() -> Loop {
 
 pub fn x() -> Loop {
     plain("X", &X, &X_WORDS, |seen| seen.x == STEPS / 2)
+}
+
+/// The sample's image with all masks set: every request is enabled, and the timer's is the only one.
+pub fn measuring() -> Loop {
+    let mut memory = vec![0; MEMORY_SIZE];
+    let mut state = oracle::read_image(SAMPLE, &mut memory).state;
+    state.psi.control_and_masks = 0xFFFE;
+    put(&mut memory, DONE, AGAIN);
+    let mut random = Random::new();
+    Loop {
+        name: "measuring loop",
+        image: image(state, &memory),
+        // As the sample's: 6 to 21 cycles, P0 to P6 a slow signal, all other pins high. But the sample's
+        // cycles repeat after 16 steps, and these do not.
+        records: (0..PORTION as u32)
+            .map(|i| (6 + random.below(16)) << 22 | (i / 50 % 128) << 15 | 0x7FFF)
+            .collect(),
+        code: [START..DONE + 2, 0x0180..0x018A],
+        ticks: Some(0x0402),
+        is_as_named: |seen| seen.entries > STEPS / 30 && seen.taken > STEPS / 10,
+    }
 }
 
 /// A machine at the program, the clock running with a load of 100, all masks 0, so that no step is an entry.
@@ -166,7 +199,8 @@ fn plain(name: &'static str, program: &[u16], words: &[(u16, u16)], is_as_named:
         records: (0..PORTION)
             .map(|_| random.below(39) << 22 | 0x003F_FFFF)
             .collect(),
-        code: START..START + 2 * program.len() as u16,
+        code: [START..START + 2 * program.len() as u16, 0..0],
+        ticks: None,
         is_as_named,
     }
 }
@@ -181,12 +215,17 @@ impl Loop {
         let mut seen = Seen::default();
         for i in 0..STEPS {
             let pc = state.pc;
-            assert!(self.code.contains(&pc), "{}: PC {pc:04X}", self.name);
+            assert!(
+                self.code.iter().any(|code| code.contains(&pc)),
+                "{}: PC {pc:04X}",
+                self.name
+            );
             let word = word(&memory, pc);
             let mut machine = Machine::new(&mut memory, state);
             let step = machine.step(self.records[i % PORTION]);
             state = machine.state();
             match step {
+                Step::Level(1) => seen.entries += 1,
                 Step::Instruction => match word {
                     0x0480..=0x04BF => seen.x += 1,
                     0x1100..=0x1CFF if state.pc != pc + 2 => seen.taken += 1,
@@ -196,7 +235,7 @@ impl Loop {
                 _ => panic!("{}: {step:?} at {pc:04X}", self.name),
             }
         }
-        for at in self.code.clone().map(usize::from) {
+        for at in self.code.iter().cloned().flatten().map(usize::from) {
             assert_eq!(memory[at], before[at], "{}: at {at:04X}", self.name);
         }
         assert_eq!(state.psi.control_and_masks, masks, "{}", self.name);
@@ -204,7 +243,7 @@ impl Loop {
     }
 }
 
-fn word(memory: &[u8], at: u16) -> u16 {
+pub fn word(memory: &[u8], at: u16) -> u16 {
     let at = usize::from(at);
     u16::from_be_bytes([memory[at], memory[at + 1]])
 }

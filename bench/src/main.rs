@@ -11,6 +11,13 @@ use loops::{Loop, PORTION, STEPS};
 const ROUNDS: usize = 40;
 const IMAGES: usize = 500;
 
+/// A record's cycles are those of the PSI's φ, the processor's clock (document 002, its TMS 9901 manual, table
+/// of pins). On the board of document 002 that is 2 MHz (1.3 General Specifications; 8.3.1: 8 MHz at CKIN, four
+/// phases). Its TMS 9980A manual has 2 MHz as the most ("a system speed of 1.5 MHz to 2 MHz", 4.4.2), although
+/// the 10 MHz that it allows at CKIN would make 2.5.
+const CYCLES_A_SECOND: f64 = 2e6;
+const SECONDS_A_DAY: f64 = 86400.0;
+
 #[derive(Default)]
 struct Times {
     library: Duration,
@@ -26,6 +33,7 @@ fn steps(of: &Loop) -> Times {
     assert_eq!(library::read_image(&of.image, &mut ours, &mut words, &mut 0), 0);
     let mut state = oracle::read_image(&of.image, &mut theirs).state;
     assert_eq!(library::state(&words), state);
+    let mut ticks = 0;
     let mut left = STEPS;
     while left > 0 {
         let portion = left.min(PORTION);
@@ -42,6 +50,10 @@ fn steps(of: &Loop) -> Times {
         assert_eq!((answer.steps, answer.unassigned), (portion, 0));
         assert_eq!(library::state(&words), state);
         assert!(ours == theirs, "the memories differ");
+        if let Some(at) = of.ticks {
+            let before = std::mem::replace(&mut ticks, loops::word(&ours, at));
+            assert!(ticks > before, "no interrupt was taken");
+        }
         left -= portion;
     }
     times
@@ -101,11 +113,27 @@ fn report(name: &str, count: usize, unit: &str, times: &Times) {
     );
 }
 
+/// How long a day's recording takes at the pace of the loop that was measured.
+fn report_day(of: &Loop, times: &Times) {
+    let cycles: u64 = (0..STEPS).map(|i| u64::from(of.records[i % PORTION] >> 22)).sum();
+    let pace = CYCLES_A_SECOND * STEPS as f64 / cycles as f64;
+    let steps = SECONDS_A_DAY * pace;
+    let seconds = |t: Duration| t.as_secs_f64() * steps / STEPS as f64;
+    println!(
+        "a day ({SECONDS_A_DAY} s, {:.0} million steps at {pace:.0} steps a second): \
+         library {:.0} s, oracle {:.0} s",
+        steps / 1e6,
+        seconds(times.library),
+        seconds(times.oracle),
+    );
+}
+
 fn main() {
     let measure = |of: &Loop| {
         of.check();
         let times = best(|| steps(of));
         report(of.name, STEPS, "step", &times);
+        times
     };
     println!("{STEPS} steps in portions of {PORTION} records; the least of {ROUNDS} rounds each; all answers agree");
     let registers = loops::registers();
@@ -113,10 +141,13 @@ fn main() {
     measure(&loops::cru());
     measure(&loops::mixed());
     measure(&loops::x());
+    let sample = loops::measuring();
+    let times = measure(&sample);
     report(
         "images written and read",
         IMAGES,
         "pair",
         &best(|| images(&registers.image)),
     );
+    report_day(&sample, &times);
 }
