@@ -1,18 +1,19 @@
--- The definitions pick one of a few shapes by tests, so what holds of every shape holds of every word; and a word is unassigned by the
--- step of the definitions' tests at which it lies.
+-- The definitions pick one of a few shapes by tests, so what holds of every shape holds of every word; and a word is unassigned, or an X, by
+-- the step of the definitions' tests at which it lies.
 use Prim.Native.Nat.{ℕ, _/_, _<_, _≤_}
-use mathlib.Core.Path.{_≡_, refl}
+use mathlib.Core.Path.{_≡_, refl, sym, _∙_}
 use mathlib.Core.Bool.{Bool, true, false, and-false}
 use mathlib.Core.Logic.{_≢_}
 use native.Mathlib.Omega.{arith}
 use lib.Dec.{eqb, leb, ltb}
-use borrow.Author.Tests.{leb-true, leb-false, le-leb, lt-leb, lt-ltb, le-ltb, ne-eqb}
+use borrow.Author.Tests.{eqb-true, eqb-false, leb-true, leb-false, le-leb, lt-leb, lt-ltb, le-ltb, ne-eqb}
 use Rattle.bits.specs.Bits.{if_then_else_}
 use Rattle.isa.specs.declared.Instruction.{Instruction}
 use Rattle.isa.specs.declared.Instruction.the-variants.{Dual, Register, Xop, Transfer, Bit, Jump, Shift, Single, Blwp, X, Immediate, Stwp, Stst, Lwpi, Limi, Control, Unassigned}
 use Rattle.isa.specs.Isa.{opcode, source, destination, dual, with-register, with-displacement, shift, single, immediate, decoded, further-words}
-use Rattle.isa.specs.Words.{General, Fields, Fields-in-range, Two-further-words, is-unassigned, within, in-gaps, Unassigned-exactly}
+use Rattle.isa.specs.Words.{General, Fields, Fields-in-range, Two-further-words, is-unassigned, within, in-gaps, Unassigned-exactly, is-x, X-exactly, X-operand}
 use Rattle.isa.proofs.Laws.{operand-words-at-most}
+use Rattle.isa.proofs.Ranges.{from-0800, from-0400, from-0200, from-0}
 
 -- what holds of both arms holds of the choice
 both : (P : Instruction → Type 0) (b : Bool) {x y : Instruction} → P x → P y → P (if b then x else y)
@@ -117,9 +118,9 @@ high w h =
 
 -- 0800 to 0FFF: the words from 0C00 on are not
 shifts : (w : ℕ) → 0x0800 ≤ w → w < 0x1000 → is-unassigned (decoded w) ≡ in-gaps w
-unfolding is-unassigned decoded shift in-gaps
+unfolding is-unassigned shift in-gaps
 shifts w h l =
-    rw (lt-leb 0x4000 w (omega arith), lt-leb 0x2000 w (omega arith), lt-leb 0x1000 w l, le-leb 0x0800 w h)
+    rw (from-0800 w l h)
     (rw (above 0 0x01FF w (omega arith), above 0x0320 0x033F w (omega arith), above 0x0780 0x07FF w h)
     (by-order 0x0C00 w
     (λ g. rw (le-ltb w 0x0C00 g, inside 0x0C00 0x0FFF w g (omega arith)))
@@ -127,9 +128,9 @@ shifts w h l =
 
 -- 0400 to 07FF: the words from 0780 on are not
 singles : (w : ℕ) → 0x0400 ≤ w → w < 0x0800 → is-unassigned (decoded w) ≡ in-gaps w
-unfolding Assigned is-unassigned decoded single in-gaps
+unfolding Assigned is-unassigned single in-gaps
 singles w h l =
-    rw (lt-leb 0x4000 w (omega arith), lt-leb 0x2000 w (omega arith), lt-leb 0x1000 w (omega arith), lt-leb 0x0800 w l, le-leb 0x0400 w h)
+    rw (from-0400 w l h)
     (rw (above 0 0x01FF w (omega arith), above 0x0320 0x033F w (omega arith), below 0x0C00 0x0FFF w (omega arith))
     (by-order 0x0780 w
     (λ g. rw (le-ltb w 0x0780 g, inside 0x0780 0x07FF w g (omega arith)))
@@ -138,9 +139,9 @@ singles w h l =
 
 -- 0200 to 03FF: those with the code 0320 are not
 immediates : (w : ℕ) → 0x0200 ≤ w → w < 0x0400 → is-unassigned (decoded w) ≡ in-gaps w
-unfolding Assigned is-unassigned decoded immediate in-gaps
+unfolding Assigned is-unassigned immediate in-gaps
 immediates w h l =
-    rw (lt-leb 0x4000 w (omega arith), lt-leb 0x2000 w (omega arith), lt-leb 0x1000 w (omega arith), lt-leb 0x0800 w (omega arith), lt-leb 0x0400 w l, le-leb 0x0200 w h)
+    rw (from-0200 w l h)
     (rw (above 0 0x01FF w h, below 0x0780 0x07FF w (omega arith), below 0x0C00 0x0FFF w (omega arith))
     (by-order 0x0340 w
     (λ g. rw (above 0x0320 0x033F w g) (assigned (omega arith)))
@@ -158,10 +159,48 @@ immediates w h l =
         (rw (ne-eqb (opcode 0x20 w) 0x0320 n))))))
 
 pub unassigned-exactly : Unassigned-exactly
-unfolding decoded is-unassigned in-gaps
+unfolding is-unassigned in-gaps
 unassigned-exactly w =
     by-order 0x1000 w (high w) (λ h.
     by-order 0x0800 w (λ l. shifts w l h) (λ g.
     by-order 0x0400 w (λ l. singles w l g) (λ k.
     by-order 0x0200 w (λ l. immediates w l k) (λ z.
-    rw (lt-leb 0x4000 w (omega arith), lt-leb 0x2000 w (omega arith), lt-leb 0x1000 w h, lt-leb 0x0800 w g, lt-leb 0x0400 w k, lt-leb 0x0200 w z, inside 0 0x01FF w (omega arith) (omega arith))))))
+    rw (from-0 w z, inside 0 0x01FF w (omega arith) (omega arith))))))
+
+-- X
+
+No-x : Instruction → Type 0
+No-x i = is-x i ≡ false
+
+x-word : (w : ℕ) → opcode 0x40 w ≡ 0x0480 → decoded w ≡ X (source w)
+unfolding single
+x-word w e = rw (from-0400 w (omega arith) (omega arith), lt-ltb w 0x0780 (omega arith), e)
+
+no-x : (w : ℕ) → opcode 0x40 w ≢ 0x0480 → No-x (decoded w)
+unfolding No-x is-x decoded dual with-register with-displacement shift single immediate
+no-x w n =
+    both No-x (leb 0x4000 w) refl
+    (both No-x (leb 0x2000 w)
+    (both No-x (eqb (opcode 0x400 w) 0x2C00) refl (both No-x (eqb (opcode 0x400 w) 0x3000) refl (both No-x (eqb (opcode 0x400 w) 0x3400) refl refl)))
+    (both No-x (leb 0x1000 w) (both No-x (ltb w 0x1D00) refl refl)
+    (both No-x (leb 0x0800 w) (both No-x (ltb w 0x0C00) refl refl)
+    (both No-x (leb 0x0400 w)
+    (both No-x (ltb w 0x0780) (both No-x (eqb (opcode 0x40 w) 0x0400) refl (rw (ne-eqb (opcode 0x40 w) 0x0480 n))) refl)
+    (both No-x (leb 0x0200 w)
+    (both No-x (ltb w 0x02A0) refl
+    (both No-x (eqb (opcode 0x20 w) 0x02A0) refl
+    (both No-x (eqb (opcode 0x20 w) 0x02C0) refl
+    (both No-x (eqb (opcode 0x20 w) 0x02E0) refl
+    (both No-x (eqb (opcode 0x20 w) 0x0300) refl (both No-x (eqb (opcode 0x20 w) 0x0320) refl refl))))))
+    refl)))))
+
+pub x-exactly : X-exactly
+unfolding No-x is-x
+x-exactly w = by-test (eqb (opcode 0x40 w) 0x0480) refl
+  where
+    by-test : (t : Bool) → eqb (opcode 0x40 w) 0x0480 ≡ t → is-x (decoded w) ≡ t
+    by-test true e = rw (x-word w (eqb-true _ _ e))
+    by-test false e = no-x w (eqb-false _ _ e)
+
+pub x-operand : X-operand
+x-operand w h = x-word w (eqb-true (opcode 0x40 w) 0x0480 (sym (x-exactly w) ∙ h))

@@ -1,12 +1,12 @@
--- What holds of every word: the ranges of an instruction's fields, the number of its further words, and which words are unassigned.
+-- What holds of every word: the ranges of an instruction's fields, the number of its further words, which words are unassigned and which are X.
 use Prim.Native.Nat.{ℕ, _<_, _≤_}
 use mathlib.Core.Path.{_≡_}
 use mathlib.Core.Bool.{Bool, true, false, _&&_, _||_}
-use lib.Dec.{leb}
+use lib.Dec.{eqb, leb}
 use Rattle.isa.specs.declared.Operand.{Operand}
 use Rattle.isa.specs.declared.Instruction.{Instruction}
 use Rattle.isa.specs.declared.Instruction.the-variants.{Dual, Register, Xop, Transfer, Bit, Jump, Shift, Single, Blwp, X, Immediate, Stwp, Stst, Lwpi, Limi, Control, Unassigned}
-use Rattle.isa.specs.Isa.{decoded, further-words}
+use Rattle.isa.specs.Isa.{opcode, source, decoded, further-words}
 
 -- a mode and a register
 abbrev pub General : Operand → Type 0
@@ -68,3 +68,29 @@ in-gaps w = within 0x0000 0x01FF w || within 0x0320 0x033F w || within 0x0780 0x
 
 abbrev pub Unassigned-exactly : Type 0
 Unassigned-exactly = (w : ℕ) → is-unassigned (decoded w) ≡ in-gaps w
+
+unfoldable pub is-x : Instruction → Bool
+is-x (Dual o s d w) = false
+is-x (Register o s r) = false
+is-x (Xop s n) = false
+is-x (Transfer o s n) = false
+is-x (Bit o d) = false
+is-x (Jump o d) = false
+is-x (Shift o r n) = false
+is-x (Single o s) = false
+is-x (Blwp s) = false
+is-x (X s) = true
+is-x (Immediate o r) = false
+is-x (Stwp r) = false
+is-x (Stst r) = false
+is-x Lwpi = false
+is-x Limi = false
+is-x (Control o) = false
+is-x Unassigned = false
+
+-- X has the code 0480, and its operand in the low six bits
+abbrev pub X-exactly : Type 0
+X-exactly = (w : ℕ) → is-x (decoded w) ≡ eqb (opcode 0x40 w) 0x0480
+
+abbrev pub X-operand : Type 0
+X-operand = (w : ℕ) → is-x (decoded w) ≡ true → decoded w ≡ X (source w)

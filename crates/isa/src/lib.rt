@@ -1,6 +1,7 @@
 // The 69 instructions: a word becomes an instruction with its fields.
 ghost use mathlib.Core.Path.{_≡_};
 ghost use Rattle.isa.specs.Isa as Isa;
+ghost use Rattle.isa.specs.Words as Words;
 use memory::Width;
 use std::num;
 
@@ -102,8 +103,6 @@ pub enum ControlOp {
 
 // An instruction with its fields. Counts and displacements are as coded.
 pub enum Instruction {
-    // The general operand comes right after the operation, as in all other forms: the compiled code then reads it
-    // from one place.
     Dual {
         op: DualOp,
         source: Operand,
@@ -176,14 +175,14 @@ pub fn source(word: u16) -> Operand
 }
 
 // The general operand in the six bits above those.
-fn destination(word: u16) -> Operand
+pub fn destination(word: u16) -> Operand
     ensures { λ r. ⌜ r ≡ Isa.destination word ⌝ }
 {
     source(word / 64)
 }
 
 // The operation of a word from 4000 on.
-fn dual_operation(code: u16) -> DualOp
+pub fn dual_operation(code: u16) -> DualOp
     ensures { λ r. ⌜ r ≡ Isa.dual-operation code ⌝ }
 {
     match code {
@@ -197,7 +196,7 @@ fn dual_operation(code: u16) -> DualOp
 }
 
 // The width of a word from 4000 on.
-fn dual_width(word: u16) -> Width
+pub fn dual_width(word: u16) -> Width
     ensures { λ r. ⌜ r ≡ Isa.dual-width word ⌝ }
 {
     if word / 0x1000 % 2 == 1 {
@@ -220,7 +219,7 @@ fn dual(word: u16) -> Instruction
 }
 
 // The operation of a word from 2000 to 3FFF that has a register.
-fn register_operation(code: u16) -> RegisterOp
+pub fn register_operation(code: u16) -> RegisterOp
     ensures { λ r. ⌜ r ≡ Isa.register-operation code ⌝ }
 {
     match code {
@@ -263,7 +262,7 @@ fn with_register(word: u16) -> Instruction
 }
 
 // The jump of a word from 1000 to 1CFF.
-fn jump_operation(code: u16) -> JumpOp
+pub fn jump_operation(code: u16) -> JumpOp
     ensures { λ r. ⌜ r ≡ Isa.jump-operation code ⌝ }
 {
     match code {
@@ -284,7 +283,7 @@ fn jump_operation(code: u16) -> JumpOp
 }
 
 // The access to a CRU bit of a word from 1D00 to 1FFF.
-fn bit_operation(code: u16) -> BitOp
+pub fn bit_operation(code: u16) -> BitOp
     ensures { λ r. ⌜ r ≡ Isa.bit-operation code ⌝ }
 {
     match code {
@@ -326,7 +325,7 @@ fn with_displacement(word: u16) -> Instruction
 }
 
 // The shift of a word from 0800 to 0BFF.
-fn shift_operation(code: u16) -> ShiftOp
+pub fn shift_operation(code: u16) -> ShiftOp
     ensures { λ r. ⌜ r ≡ Isa.shift-operation code ⌝ }
 {
     match code {
@@ -353,7 +352,7 @@ fn shift(word: u16) -> Instruction
 }
 
 // The operation of a word from 0400 to 077F, BLWP and X apart.
-fn single_operation(code: u16) -> SingleOp
+pub fn single_operation(code: u16) -> SingleOp
     ensures { λ r. ⌜ r ≡ Isa.single-operation code ⌝ }
 {
     match code {
@@ -393,7 +392,7 @@ fn single(word: u16) -> Instruction
 }
 
 // The operation of a word from 0200 to 029F.
-fn immediate_operation(code: u16) -> ImmediateOp
+pub fn immediate_operation(code: u16) -> ImmediateOp
     ensures { λ r. ⌜ r ≡ Isa.immediate-operation code ⌝ }
 {
     match code {
@@ -406,7 +405,7 @@ fn immediate_operation(code: u16) -> ImmediateOp
 }
 
 // The operation of a word from 0340 to 03FF.
-fn control_operation(code: u16) -> ControlOp
+pub fn control_operation(code: u16) -> ControlOp
     ensures { λ r. ⌜ r ≡ Isa.control-operation code ⌝ }
 {
     match code {
@@ -444,19 +443,17 @@ fn immediate(word: u16) -> Instruction
     }
 }
 
-// The instruction that a word is.
+// The instruction that a word is. The run does not go by it: `instructions` has the same ranges.
 pub fn decode(word: u16) -> Instruction
     ensures { λ r. ⌜ r ≡ Isa.decoded word ⌝ }
 {
-    // Split at 1000: behind six tests in a row the compiler takes the call of `immediate` for rare and keeps it, and then copies
-    // every answer through the stack.
+    if word >= 0x4000 {
+        return dual(word);
+    }
+    if word >= 0x2000 {
+        return with_register(word);
+    }
     if word >= 0x1000 {
-        if word >= 0x4000 {
-            return dual(word);
-        }
-        if word >= 0x2000 {
-            return with_register(word);
-        }
         return with_displacement(word);
     }
     if word >= 0x0800 {
@@ -469,6 +466,13 @@ pub fn decode(word: u16) -> Instruction
         return immediate(word);
     }
     Instruction::Unassigned
+}
+
+// Whether a word is an X.
+pub fn is_x(word: u16) -> bool
+    ensures { λ r. ⌜ r ≡ Words.is-x (Isa.decoded word) ⌝ }
+{
+    word / 0x40 * 0x40 == 0x0480
 }
 
 // How many further words a general operand takes.
