@@ -44,7 +44,7 @@ fn proceed(bytes: &mut [u8], state: State, levels: u32) -> Stepped
     }
     let word = bus::fetch(bytes, sampled);
     let fetched = word.state;
-    let executed = cpu::execute(bytes, fetched, levels, word.value, cpu::ALLOWANCE);
+    let executed = cpu::perform(bytes, fetched, levels, word.value, cpu::ALLOWANCE);
     let deed = executed.deed;
     let after = executed.state;
     Stepped {

@@ -129,7 +129,7 @@ fn one(bytes: &mut [u8], seed: &mut u32, word: u16, through: bool, tally: Tally)
     let state = states::state(seed, 0);
     let first = prepared(bytes, seed, state, word, through);
     let record = psi::split(records::record(seed, 4));
-    let executed = cpu::execute(bytes, state, record.levels, first, cpu::ALLOWANCE);
+    let executed = cpu::perform(bytes, state, record.levels, first, cpu::ALLOWANCE);
     let deed = executed.deed;
     let after = executed.state;
     let miss = missed(deed);

@@ -11,7 +11,7 @@ returns c = rw (perform-bind, perform-registers, perform-bind, ← c .before .be
 
 returns-2 : tie.Need-returns-2
 unfolding Step.proceed
-returns-2 c = rw (perform-bind, perform-registers, perform-bind, ← c .before .before .before .before .before .before .before .before .before .before .before .put .ensures, c .before .before .before .before .before .before .before .before .before .before .set-flags .ensures _ _, ← c .before .before .before .before .before .before .before .before .before .bit .ensures, c .before .before .before .before .before .before .before .before .if1 .left, perform-bind, c .before .before .before .before .before .before .fetch .ensures _, perform-bind, c .before .before .before .execute .ensures, perform-done)
+returns-2 c = rw (perform-bind, perform-registers, perform-bind, ← c .before .before .before .before .before .before .before .before .before .before .before .put .ensures, c .before .before .before .before .before .before .before .before .before .before .set-flags .ensures _ _, ← c .before .before .before .before .before .before .before .before .before .bit .ensures, c .before .before .before .before .before .before .before .before .if1 .left, perform-bind, c .before .before .before .before .before .before .fetch .ensures _, perform-bind, c .before .before .before .perform .ensures, perform-done)
 
 pub proceed-spec : {M : Type 1} → statement M
 proceed-spec =
