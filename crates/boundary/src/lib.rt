@@ -59,18 +59,27 @@ fn boundary(bytes: &mut [u8], state: State, levels: u32, signal: Signal) -> Step
     ensures { λ r. ⌜ perform levels (Step.boundary signal) (at state (now (bytes .entry))) ≡ performed (r .kind) (at (r .state) (now (bytes .exit))) ⌝ }
 {
     match signal {
-        Signal::Reset => Stepped {
-            kind: Kind::Reset,
-            state: enter(bytes, state, Signal::Reset),
-        },
-        Signal::Load => Stepped {
-            kind: Kind::Load,
-            state: enter(bytes, state, Signal::Load),
-        },
-        Signal::Level(k) => Stepped {
-            kind: Kind::Level(k),
-            state: enter(bytes, state, Signal::Level(k)),
-        },
+        Signal::Reset => {
+            let entered = enter(bytes, state, Signal::Reset);
+            Stepped {
+                kind: Kind::Reset,
+                state: entered,
+            }
+        }
+        Signal::Load => {
+            let entered = enter(bytes, state, Signal::Load);
+            Stepped {
+                kind: Kind::Load,
+                state: entered,
+            }
+        }
+        Signal::Level(k) => {
+            let entered = enter(bytes, state, Signal::Level(k));
+            Stepped {
+                kind: Kind::Level(k),
+                state: entered,
+            }
+        }
         Signal::Nothing => proceed(bytes, state, levels),
     }
 }
@@ -80,12 +89,11 @@ pub fn step(bytes: &mut [u8], state: State, word: u32) -> Stepped
     requires { ⌜ Installed (now bytes) ⌝ }
     ensures { λ r. ⌜ Step.step word (at state (now (bytes .entry))) ≡ performed (r .kind) (at (r .state) (now (bytes .exit))) ⌝ }
 {
-    let mut clocked = state;
     let record = psi::split(word);
-    let before = clocked.psi;
-    let after = before.advance(record.cycles);
-    let code = after.code(record.levels);
-    clocked.psi = after;
+    let before = state.psi;
+    let psi = before.advance(record.cycles);
+    let code = psi.code(record.levels);
+    let clocked = state.with_psi(psi);
     let taken = sampling::admitted(clocked, sampling::signal(code));
     boundary(bytes, clocked, record.levels, taken)
 }

@@ -1,4 +1,5 @@
-// Accesses to the lent memory. Each takes the state and hands it back, and is one access of a microprogram.
+// Accesses to the lent memory. Each takes the state and hands it back, and is one access of a microprogram. A state of which one
+// part changes is written anew, field by field: with one field assigned, the compiler packs the others into wide words and waits for them.
 ghost use mathlib.Core.Path.{_≡_};
 ghost use Prim.Native.Nat.{ℕ};
 ghost use mathlib.Core.List.{List};
@@ -43,11 +44,20 @@ pub fn fetch(bytes: &[u8], state: State) -> Loaded
     requires { ⌜ Installed (now bytes) ⌝ }
     ensures { λ r. ⌜ ((v : ℕ) → perform v Micro.fetched (at state (now (bytes .entry))) ≡ performed (r .value) (at (r .state) (now (bytes .entry)))) ⌝ }
 {
-    let mut s = state;
-    let pc = s.pc;
+    let pc = state.pc;
+    let psi = state.psi;
     let value = memory::load(bytes, Width::Word, pc);
-    s.pc = std::num::wrapping_add_u16(pc, 2);
-    Loaded { value, state: s }
+    let after = State {
+        wp: state.wp,
+        pc: std::num::wrapping_add_u16(pc, 2),
+        st: state.st,
+        flags: state.flags,
+        psi,
+    };
+    Loaded {
+        value,
+        state: after,
+    }
 }
 
 // Where register `n` is.
@@ -80,36 +90,56 @@ pub fn set_register(bytes: &mut [u8], state: State, n: u16, value: u16) -> State
 pub fn set_wp(state: State, value: u16) -> State
     ensures { λ r. ⌜ ((v : ℕ) (m : List ℕ) → perform v (Micro.set to-wp value) (at state m) ≡ performed tt (at r m)) ⌝ }
 {
-    let mut s = state;
-    s.wp = value / 2 * 2;
-    s
+    let psi = state.psi;
+    State {
+        wp: value / 2 * 2,
+        pc: state.pc,
+        st: state.st,
+        flags: state.flags,
+        psi,
+    }
 }
 
 // PC takes a value, less its lowest bit.
 pub fn set_pc(state: State, value: u16) -> State
     ensures { λ r. ⌜ ((v : ℕ) (m : List ℕ) → perform v (Micro.set to-pc value) (at state m) ≡ performed tt (at r m)) ⌝ }
 {
-    let mut s = state;
-    s.pc = value / 2 * 2;
-    s
+    let psi = state.psi;
+    State {
+        wp: state.wp,
+        pc: value / 2 * 2,
+        st: state.st,
+        flags: state.flags,
+        psi,
+    }
 }
 
 // ST takes a value.
 pub fn set_st(state: State, value: u16) -> State
     ensures { λ r. ⌜ ((v : ℕ) (m : List ℕ) → perform v (Micro.set to-st value) (at state m) ≡ performed tt (at r m)) ⌝ }
 {
-    let mut s = state;
-    s.st = value;
-    s
+    let psi = state.psi;
+    State {
+        wp: state.wp,
+        pc: state.pc,
+        st: value,
+        flags: state.flags,
+        psi,
+    }
 }
 
 // The flags take a value of two bits.
 pub fn set_flags(state: State, value: u16) -> State
     ensures { λ r. ⌜ ((v : ℕ) (m : List ℕ) → perform v (Micro.set to-flags value) (at state m) ≡ performed tt (at r m)) ⌝ }
 {
-    let mut s = state;
-    s.flags = value % 4;
-    s
+    let psi = state.psi;
+    State {
+        wp: state.wp,
+        pc: state.pc,
+        st: state.st,
+        flags: value % 4,
+        psi,
+    }
 }
 
 // A CRU bit that was read, and the state after the access.
@@ -122,14 +152,13 @@ pub struct SensedBit {
 pub fn sense(state: State, levels: u32, bit: CruBit) -> SensedBit
     ensures { λ r. ⌜ ((m : List ℕ) → perform levels (Micro.sensed bit) (at state m) ≡ performed (r .value) (at (r .state) m)) ⌝ }
 {
-    let mut s = state;
-    let psi = s.psi;
-    let found = psi.sense(levels, bit);
-    let after = found.psi;
-    s.psi = after;
+    let before = state.psi;
+    let found = before.sense(levels, bit);
+    let psi = found.psi;
+    let after = state.with_psi(psi);
     SensedBit {
         value: found.value,
-        state: s,
+        state: after,
     }
 }
 
@@ -137,9 +166,7 @@ pub fn sense(state: State, levels: u32, bit: CruBit) -> SensedBit
 pub fn drive(state: State, bit: CruBit, value: bool) -> State
     ensures { λ r. ⌜ ((v : ℕ) (m : List ℕ) → perform v (Micro.driven bit value) (at state m) ≡ performed tt (at r m)) ⌝ }
 {
-    let mut s = state;
-    let psi = s.psi;
-    let after = psi.drive(bit, value);
-    s.psi = after;
-    s
+    let before = state.psi;
+    let psi = before.drive(bit, value);
+    state.with_psi(psi)
 }

@@ -72,6 +72,19 @@ impl State {
         }
     }
 
+    // The same with another PSI.
+    pub fn with_psi(self, psi: Psi) -> State
+        ensures { λ r. ⌜ r ≡ Own.with-psi psi self ⌝ }
+    {
+        State {
+            wp: self.wp,
+            pc: self.pc,
+            st: self.st,
+            flags: self.flags,
+            psi,
+        }
+    }
+
     // WP and PC even, flags at most 3, and the PSI's fields in order.
     pub fn well_formed(self) -> bool
         ensures { λ r. ⌜ r ≡ Own.well-formed self ⌝ }

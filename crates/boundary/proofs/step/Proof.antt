@@ -8,13 +8,15 @@ use Rattle.boundary.proofs.step.Tie as tie
 returns : tie.Need-returns
 unfolding Step.step Step.stepping
 returns c =
-    rw (perform-bind, perform-registers, ← c .before .before .before .before .before .before .before .before .before .split .ensures, ← c .before .before .before .before .before .before .before .advance .ensures, ← c .before .before .before .before .before .before .code .ensures, ← c .before .before .before .before .before .signal .ensures, ← c .before .before .before .before .admitted .ensures)
-    (c .before .before .boundary .ensures)
+    let clocked = c .before .before .before .before .before .before .with-psi .ensures in
+    rw (perform-bind, perform-registers, ← c .before .before .before .before .before .before .before .before .before .before .split .ensures, ← c .before .before .before .before .before .before .before .before .advance .ensures, ← c .before .before .before .before .before .before .before .code .ensures, ← c .before .before .before .before .before .signal .ensures, ← rw clocked at (c .before .before .before .before .admitted .ensures))
+    (rw clocked at (c .before .before .boundary .ensures))
 
 pub step-spec : {M : Type 1} → statement M
 step-spec =
     tie.close
     (tie.spec
+    (λ c κs. search needs)
     (λ c κs. search needs)
     (λ c κs. search needs)
     (λ c κs. search needs)

@@ -6,4 +6,4 @@ use Rattle.machine.proofs.bus.drive.Statement.{statement}
 use Rattle.machine.proofs.bus.drive.Tie as tie
 
 pub drive-spec : {M : Type 1} → statement M
-drive-spec = tie.close (tie.spec (λ c κs. search needs) (λ c v m. unfold perform Micro.driven in (rw (c .drive .ensures))))
+drive-spec = tie.close (tie.spec (λ c κs. search needs) (λ c κs. search needs) (λ c v m. unfold perform Micro.driven in (rw (c .with-psi .ensures, c .before .drive .ensures))))

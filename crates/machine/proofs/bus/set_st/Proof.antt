@@ -6,4 +6,4 @@ use Rattle.machine.proofs.bus.set_st.Statement.{statement}
 use Rattle.machine.proofs.bus.set_st.Tie as tie
 
 pub set-st-spec : {M : Type 1} → statement M
-set-st-spec = tie.close (tie.spec (λ c v m. unfold perform Micro.set in (rw (mod-eq-of-lt (c .fits .value .fits)))))
+set-st-spec = tie.close (tie.spec (λ c v m. unfold perform Micro.set in (rw (mod-eq-of-lt (c .before .fits .value .fits)))))

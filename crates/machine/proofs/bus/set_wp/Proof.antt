@@ -9,4 +9,4 @@ use Rattle.machine.proofs.bus.set_wp.Statement.{statement}
 use Rattle.machine.proofs.bus.set_wp.Tie as tie
 
 pub set-wp-spec : {M : Type 1} → statement M
-set-wp-spec = tie.close (tie.spec (λ c. search needs) (λ c v m. unfold perform Micro.set in (rw (mod-eq-of-lt (let h : c .args .value / 2 * 2 < 65536 = omega arith in h)))))
+set-wp-spec = tie.close (tie.spec (λ c. search needs) (λ c v m. unfold perform Micro.set in (rw (mod-eq-of-lt (let h : c .before .args .value / 2 * 2 < 65536 = omega arith in h)))))
