@@ -1,16 +1,17 @@
 -- A bit put at 0 is the lowest digit; further up the lowest digit stays and the bit is put one place lower into the half, so
--- a number of j digits stays one. The bit put reads back and every other bit is kept: a bit above sees only the digits above,
--- and a bit below does not see what is added from n on.
-use Prim.Native.Nat.{ℕ, zero, suc, _+_, _-_, _*_, _/_, _%_, _^_, _<_, _≤_}
+-- a number of j digits stays one. By weights, a one of that weight goes and the new one comes. The bit put reads back and
+-- every other bit is kept: a bit above sees only the digits above, and a bit below does not see what is added from n on.
+use Prim.Native.Nat.{ℕ, zero, suc, _+_, _-_, _*_, _/_, _%_, _^_, _<_}
 use mathlib.Core.Path.{_≡_, refl, sym, ap, subst, _∙_}
 use mathlib.Core.Bool.{Bool, true, false, _&&_}
 use native.Mathlib.Omega.{arith}
-use native.Mathlib.Nat.{div-one, mod-one, mod-eq-of-lt, mod-lt, mod-eq-sub-div-mul, div-mul-le-self, div-add-mod', add-mul-div-right, pow-suc}
+use native.Mathlib.Nat.{add-mul, div-one, mod-one, mod-lt, div-add-mod', add-mul-div-right, pow-suc}
 use native.Mathlib.Numerals.{one-add, add-one}
 use native.Mathlib.Decide.{decLt}
 use lib.Pow.{pow-pos, pow-add, shr-shr, mod-pow-add}
 use lib.Dec.{eqb}
 use lib.Arith.{digits-div}
+use lib.Bits.{bitAnd, and-high}
 use mir.Val.{boolByte}
 use Rattle.bits.specs.Bits.{one-if, bit, put}
 use Rattle.bits.specs.Laws.{Put-read, Put-others, Put-fits}
@@ -47,22 +48,20 @@ put-fits zero k x w h f = absurd (omega arith)
 put-fits (suc j) zero x w h f = omega (arith, put-lowest x w, one-if-below x)
 put-fits (suc j) (suc k) x w h f = omega (arith, put-above k x w, put-fits j k x (w / 2) (omega arith) (omega arith))
 
--- no shift of the code loses a bit
-module _ (w n : ℕ) (b : Bool) (fits : w < 2 ^ 16) (small : n < 16) where
-  high-kept : w / 2 ^ n * 2 ^ n % 2 ^ 32 ≡ w / 2 ^ n * 2 ^ n
-  high-kept = mod-eq-of-lt (omega (arith, div-mul-le-self w (2 ^ n)))
+-- the one of weight 2^n, where w has it
+and-weight : (w n : ℕ) → bitAnd w (2 ^ n) ≡ w / 2 ^ n % 2 * 2 ^ n
+and-weight w n =
+    let e : 2 ^ n ≡ 2 ^ (1 + n) - 2 ^ n = rw pow-add (omega arith) in
+    ap (bitAnd w) e ∙ and-high w 1 n
 
-  made-kept : (w / 2 ^ n / 2 * 2 + one-if b) * 2 ^ n % 2 ^ 32 ≡ (w / 2 ^ n / 2 * 2 + one-if b) * 2 ^ n
-  unfolding put
-  made-kept = mod-eq-of-lt (omega (arith, put-fits 16 n b w small fits))
-
-  pub shifted-back : w / 2 ^ n * 2 ^ n % 2 ^ 32 ≤ w
-  shifted-back = rw high-kept (div-mul-le-self w (2 ^ n))
-
-  pub shifts-exact :
-      (w / 2 ^ n / 2 * 2 + one-if b) * 2 ^ n % 2 ^ 32 + (w - w / 2 ^ n * 2 ^ n % 2 ^ 32) ≡ put n b w
-  unfolding put
-  shifts-exact = rw (made-kept, high-kept, ← mod-eq-sub-div-mul w (2 ^ n))
+-- by its weight: the old bit taken away, the new one added
+pub put-by-weight : (n : ℕ) (b : Bool) (w : ℕ) → put n b w ≡ w - bitAnd w (2 ^ n) + one-if b * 2 ^ n
+unfolding put
+put-by-weight n b w =
+    let high : ℕ = w / 2 ^ n in
+    let digits : high / 2 * 2 * 2 ^ n + high % 2 * 2 ^ n ≡ high * 2 ^ n =
+    rw (← add-mul) (ap (λ (x : ℕ). x * 2 ^ n) (div-add-mod' high 2)) in
+    rw (add-mul, and-weight w n) (omega (arith, digits, div-add-mod' w (2 ^ n)))
 
 truth : (b : Bool) → eqb (one-if b) 1 ≡ b
 truth true = refl

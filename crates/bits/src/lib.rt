@@ -16,11 +16,8 @@ pub fn put(w: u16, n: u32, on: bool) -> u16
     requires { ⌜ n < 16 ⌝ }
     ensures { λ r. ⌜ r ≡ Bits.put n on w ⌝ }
 {
-    let v = w as u32;
-    let high = v >> n;
-    let low = v - (high << n);
-    let made = high / 2 * 2 + (on as u32);
-    ((made << n) + low) as u16
+    let weight = 1u16 << n;
+    w - (w & weight) + ((on as u16) << n)
 }
 
 // The ones of both words.
