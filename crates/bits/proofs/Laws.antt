@@ -29,6 +29,15 @@ pub one-if-below : (b : Bool) → one-if b < 2
 one-if-below true = omega arith
 one-if-below false = omega arith
 
+pub one-if-set : (b : Bool) → eqb (one-if b) 1 ≡ b
+one-if-set true = refl
+one-if-set false = refl
+
+-- a bit further up is one of the half
+pub bit-half : (n w : ℕ) → bit (suc n) w ≡ bit n (w / 2)
+unfolding bit
+bit-half n w = rw (← one-add n, ← shr-shr w 1 n)
+
 -- at 0 the bit is the lowest digit
 pub put-lowest : (x : Bool) (w : ℕ) → put 0 x w ≡ w / 2 * 2 + one-if x
 unfolding put
@@ -63,10 +72,6 @@ put-by-weight n b w =
     rw (← add-mul) (ap (λ (x : ℕ). x * 2 ^ n) (div-add-mod' high 2)) in
     rw (add-mul, and-weight w n) (omega (arith, digits, div-add-mod' w (2 ^ n)))
 
-truth : (b : Bool) → eqb (one-if b) 1 ≡ b
-truth true = refl
-truth false = refl
-
 -- the bits from n on: those above the bit as they were, and the bit
 upper : (n : ℕ) (b : Bool) (w : ℕ) → put n b w / 2 ^ n ≡ w / 2 ^ n / 2 * 2 + one-if b
 unfolding put
@@ -76,7 +81,7 @@ pub put-read : Put-read
 unfolding bit
 put-read n b w =
     let e : (w / 2 ^ n / 2 * 2 + one-if b) % 2 ≡ one-if b = omega (arith, one-if-below b) in
-    rw (upper n b w, e) (truth b)
+    rw (upper n b w, e) (one-if-set b)
 
 -- a bit below does not see what is added from n on
 added : (m d x r : ℕ) → (x * 2 ^ (suc d + m) + r) / 2 ^ m % 2 ≡ r / 2 ^ m % 2
