@@ -4,4 +4,5 @@ pub mod Put
 pub mod AtOnce
 pub mod ClockLaws
 pub mod RequestLaws
+pub mod Quiet
 pub mod Kept

@@ -1,6 +1,7 @@
 pub mod Psi
 pub mod Clock
 pub mod Pins
+pub mod Quiet
 pub mod Cru
 pub mod Formed
 pub mod AtOnce
