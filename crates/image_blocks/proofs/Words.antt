@@ -15,6 +15,11 @@ sum-next l i h =
     let two : i + 2 ≡ suc (suc i) = omega arith in
     rw (drop-cons l i 0 (omega arith), drop-cons l (suc i) 0 (omega arith), one, two)
 
+-- the same for the i-th pair of bytes
+pub sum-pair : (l : List ℕ) (i : ℕ) → 2 * i + 1 < length l
+    → words-sum (drop (2 * i) l) ≡ getD l (2 * i) 0 * 256 + getD l (2 * i + 1) 0 + words-sum (drop (2 * (i + 1)) l)
+sum-pair l i h = rw (let e : 2 * (i + 1) ≡ 2 * i + 2 = omega arith in e) (sum-next l (2 * i) h)
+
 -- less than two bytes are no word
 pub sum-none : (l : List ℕ) → length l ≤ 1 → words-sum l ≡ 0
 unfolding words-sum

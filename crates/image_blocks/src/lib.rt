@@ -2,7 +2,7 @@
 ghost use mathlib.Core.Path.{_≡_};
 ghost use mathlib.Core.List.{List};
 ghost use Prim.Native.Nat.{ℕ, suc, min, _+_, _-_, _*_, _%_, _<_};
-ghost use lib.ListN.{length, take};
+ghost use lib.ListN.{length, getD, take};
 ghost use Rattle.memory.specs.Memory.{Installed, size};
 ghost use Rattle.image_blocks.specs.Image as Image;
 ghost use Rattle.image_blocks.specs.Blocks as Blocks;
@@ -45,17 +45,30 @@ pub const TAIL_END: usize = BLOCK_SIZE * LAST + CHECK;
 // A block's words sum to this.
 pub const SUM: u16 = 0xFFFF;
 
+// Two bytes as a number in the host's order, the first as its low byte. (A function of its own, for the compiler to load both at once.)
+fn pair(part: &[u8], i: usize) -> u16
+    requires { ⌜ 2 * i + 1 < length (now part) ⌝ }
+    ensures { λ r. ⌜ r ≡ getD (now (part .entry)) (2 * i + 1) 0 * 256 + getD (now (part .entry)) (2 * i) 0 ⌝ }
+{
+    memory::word(part[2 * i + 1], part[2 * i])
+}
+
 // The sum of the words that the bytes are, modulo 65536.
 fn words_sum(part: &[u8]) -> u16
     ensures { λ r. ⌜ r ≡ Image.words-sum (now (part .entry)) % 65536 ⌝ }
 {
-    let mut sum: u16 = 0;
-    let mut at = 0;
-    while part.len() - at > 1 {
-        sum = std::num::wrapping_add_u16(sum, memory::word(part[at], part[at + 1]));
-        at += 2;
+    let pairs = part.len() / 2;
+    let mut highs: u16 = 0;
+    let mut lows: u16 = 0;
+    let mut i = 0;
+    // A word's high byte is its pair's low one. The sum of these counts modulo 256, so the pairs are summed whole.
+    while i < pairs {
+        let both = pair(part, i);
+        highs = std::num::wrapping_add_u16(highs, both);
+        lows = std::num::wrapping_add_u16(lows, both / 256);
+        i += 1;
     }
-    sum
+    std::num::wrapping_add_u16(highs % 256 * 256, lows)
 }
 
 // Whether all bytes are 0.
