@@ -71,18 +71,17 @@ fn words_sum(part: &[u8]) -> u16
     std::num::wrapping_add_u16(highs % 256 * 256, lows)
 }
 
-// Whether all bytes are 0.
+// Whether all bytes are 0: whether no bit is set in any.
 pub fn zeros(part: &[u8]) -> bool
     ensures { λ r. ⌜ r ≡ Image.zeros (now (part .entry)) ⌝ }
 {
+    let mut ones: u8 = 0;
     let mut i = 0;
     while i < part.len() {
-        if part[i] != 0 {
-            return false;
-        }
+        ones |= part[i];
         i += 1;
     }
-    true
+    ones == 0
 }
 
 // How many bytes of memory the blocks from 1 to `i` carry.

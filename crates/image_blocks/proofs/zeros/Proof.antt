@@ -1,9 +1,11 @@
--- `zeros` meets its contract: the bytes before `i` are 0, so all are if those from `i` on are.
-use Prim.Native.Nat.{ℕ, suc, _+_, _-_, _≤_, _<_}
+-- `zeros` meets its contract: all bytes are 0 if no bit is set before `i` and the bytes from `i` on are 0.
+use Prim.Native.Nat.{ℕ, zero, suc, _+_, _-_, _≤_, _<_}
 use mathlib.Core.Path.{_≡_, refl, sym, _∙_}
 use mathlib.Core.List.{List}
-use mathlib.Core.Bool.{_&&_}
-use borrow.Author.Tests.{eq-eqb, ne-eqb}
+use mathlib.Core.Bool.{_&&_, and-assoc, and-true}
+use borrow.Author.Needs.{needs}
+use borrow.Author.Tests.{ne-eqb}
+use lib.Bits.{bitOr, or-add-and, and-le-r}
 use lib.Dec.{eqb}
 use lib.Seq.{drop-cons}
 use native.Mathlib.Omega.{arith}
@@ -12,57 +14,42 @@ use Rattle.image_blocks.specs.Image.{zeros}
 use Rattle.image_blocks.proofs.zeros.Statement.{statement}
 use Rattle.image_blocks.proofs.zeros.Tie as tie
 
--- the byte at a place, and the bytes after it
-next : (l : List ℕ) (i : ℕ) → i < length l → zeros (drop i l) ≡ (eqb (getD l i 0) 0 && zeros (drop (i + 1) l))
+-- no bit is set in either just if none is in the one and none in the other
+or-none : (a b : ℕ) → eqb (bitOr a b) 0 ≡ (eqb a 0 && eqb b 0)
+or-none zero b = refl
+or-none (suc a) b =
+    ne-eqb (bitOr (suc a) b) 0 (λ e. absurd (omega (arith, or-add-and (suc a) b, and-le-r (suc a) b, e)))
+    ∙ sym (rw (ne-eqb (suc a) 0 (λ e. absurd (omega arith))))
+
+-- a byte more that is joined to those before it
+one-more : (l : List ℕ) (i a : ℕ) → i < length l → (eqb a 0 && zeros (drop i l)) ≡ (eqb (bitOr a (getD l i 0)) 0 && zeros (drop (i + 1) l))
 unfolding zeros
-next l i h = rw (drop-cons l i 0 h, let e : i + 1 ≡ suc i = omega arith in e)
+one-more l i a h =
+    rw (drop-cons l i 0 h, let e : i + 1 ≡ suc i = omega arith in e, or-none a (getD l i 0))
+    (sym (and-assoc (eqb a 0) (eqb (getD l i 0) 0) (zeros (drop (suc i) l))))
 
 abbrev Inv-loop : tie.InvT-loop
-Inv-loop part i₀ i = (i ≤ length part) × (zeros part ≡ zeros (drop i part))
+Inv-loop part ones₀ i₀ ones i = (i ≤ length part) × (zeros part ≡ (eqb ones 0 && zeros (drop i part)))
 
 abbrev μ-loop : tie.MeasureT-loop
-μ-loop part i₀ i = length part - i
+μ-loop part ones₀ i₀ ones i = length part - i
 
 loop-holds : tie.Need-loop-holds Inv-loop μ-loop
 loop-holds c = (omega arith, refl)
 
-shared-slice-read-if1 : tie.Need-shared-slice-read-if1 Inv-loop μ-loop
-shared-slice-read-if1 c = omega arith
+loop-again : tie.Need-loop-again Inv-loop μ-loop
+loop-again c =
+    let l = c .before .before .loop in
+    (omega arith, l .inv .1 ∙ one-more (c .before .before .before .args .part .now) (l .i) (l .ones) (omega arith))
 
 returns : tie.Need-returns Inv-loop μ-loop
-returns c =
-    sym (c .before .before .before .loop .inv .1
-    ∙ next (c .before .before .before .before .args .part .now) (c .before .before .before .loop .i) (omega arith)
-    ∙ rw (ne-eqb _ _ (c .if1 .taken)))
-
-add-i : tie.Need-add-i Inv-loop μ-loop
-add-i c = omega arith
-
-loop-less : tie.Need-loop-less Inv-loop μ-loop
-loop-less c = omega arith
-
-loop-again : tie.Need-loop-again Inv-loop μ-loop
-loop-again c = (
-  omega arith,
-  c .before .before .before .loop .inv .1
-      ∙ next (c .before .before .before .before .args .part .now) (c .before .before .before .loop .i) (omega arith)
-      ∙ rw (eq-eqb _ _ (c .if1 .left)),
-)
-
-returns-2 : tie.Need-returns-2 Inv-loop μ-loop
 unfolding zeros
-returns-2 c = sym (c .before .loop .inv .1 ∙ rw (drop-of-length-le (c .before .before .args .part .now) (let e : length (c .before .before .args .part .now) ≤ c .before .loop .i = omega arith in e)))
+returns c =
+    let l = c .before .loop in
+    let p : List ℕ = c .before .before .args .part .now in
+    sym (l .inv .1 ∙ rw (drop-of-length-le p (let e : length p ≤ l .i = omega arith in e)) (and-true (eqb (l .ones) 0)))
 
 pub zeros-spec : {M : Type 1} → statement M
 zeros-spec =
     tie.close
-    (tie.spec
-    Inv-loop
-    μ-loop
-    loop-holds
-    shared-slice-read-if1
-    returns
-    add-i
-    loop-less
-    loop-again
-    returns-2)
+    (tie.spec Inv-loop μ-loop loop-holds (λ c. search needs) (λ c. search needs) (λ c. search needs) loop-again returns)
