@@ -35,17 +35,21 @@ pub const PSI_FIELD: usize = 6;
 
 pub const FIELDS: usize = PSI_FIELD + Psi::WORDS;
 
+// Where the part of memory that the last block carries begins.
+pub const LAST_PAGE: usize = CONTENT_SIZE * (LAST - 1);
+
 // The filler: in block 0 after the fields, and in the last block after the memory's last byte.
 pub const REST: usize = CONTENT + 2 * FIELDS;
 
-pub const TAIL: usize = BLOCK_SIZE * LAST + CONTENT + (memory::SIZE - CONTENT_SIZE * (LAST - 1));
+pub const TAIL: usize = BLOCK_SIZE * LAST + CONTENT + (memory::SIZE - LAST_PAGE);
 
 pub const TAIL_END: usize = BLOCK_SIZE * LAST + CHECK;
 
 // A block's words sum to this.
 pub const SUM: u16 = 0xFFFF;
 
-// Two bytes as a number in the host's order, the first as its low byte. (A function of its own, for the compiler to load both at once.)
+// Pair `i` of the bytes as a number in the host's order, its first byte the low one. A function of its own, so that the compiler makes one
+// load of it.
 fn pair(part: &[u8], i: usize) -> u16
     requires { ⌜ 2 * i + 1 < length (now part) ⌝ }
     ensures { λ r. ⌜ r ≡ getD (now (part .entry)) (2 * i + 1) 0 * 256 + getD (now (part .entry)) (2 * i) 0 ⌝ }
@@ -61,7 +65,8 @@ fn words_sum(part: &[u8]) -> u16
     let mut highs: u16 = 0;
     let mut lows: u16 = 0;
     let mut i = 0;
-    // A word's high byte is its pair's low one. The sum of these counts modulo 256, so the pairs are summed whole.
+    // A word's high byte is its pair's low one. The sum of the high bytes matters modulo 256 only, so whole pairs are summed: what stands
+    // above a low byte adds multiples of 256.
     while i < pairs {
         let both = pair(part, i);
         highs = std::num::wrapping_add_u16(highs, both);
@@ -144,9 +149,14 @@ fn page(lent: &[u8], i: usize) -> [u8; BLOCK_SIZE]
 {
     let mut block = [0u8; BLOCK_SIZE];
     put_word(&mut block, 0, (i + 1) as u16);
-    let from = CONTENT_SIZE * i;
-    let to = carried(i + 1);
-    bytes::copy(&lent[from..to], &mut block[CONTENT..CHECK]);
+    // Either copy has a length that the compiler knows.
+    if i + 1 < LAST {
+        let from = CONTENT_SIZE * i;
+        let to = from + CONTENT_SIZE;
+        bytes::copy(&lent[from..to], &mut block[CONTENT..CHECK]);
+    } else {
+        bytes::copy(&lent[LAST_PAGE..memory::SIZE], &mut block[CONTENT..CHECK]);
+    }
     block
 }
 
