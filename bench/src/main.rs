@@ -4,12 +4,16 @@
 mod library;
 mod loops;
 
+use std::process::ExitCode;
 use std::time::{Duration, Instant};
 
 use loops::{Loop, PORTION, STEPS};
 
 const ROUNDS: usize = 40;
 const IMAGES: usize = 500;
+
+/// Document 02, Q-14: the library is to be within three times the ordinary program's time.
+const LIMIT: f64 = 3.0;
 
 /// A record's cycles are those of the PSI's φ, the processor's clock (document 002, its TMS 9901 manual, table
 /// of pins). On the board of document 002 that is 2 MHz (1.3 General Specifications; 8.3.1: 8 MHz at CKIN, four
@@ -96,7 +100,8 @@ fn best(round: impl Fn() -> Times) -> Times {
     least
 }
 
-fn report(name: &str, count: usize, unit: &str, times: &Times) {
+/// Prints a line; whether the ratio is within the limit.
+fn report(name: &str, count: usize, unit: &str, times: &Times) -> bool {
     let time = |t: Duration| {
         let seconds = t.as_secs_f64();
         format!(
@@ -105,12 +110,13 @@ fn report(name: &str, count: usize, unit: &str, times: &Times) {
             seconds * 1e9 / count as f64
         )
     };
+    let ratio = times.library.as_secs_f64() / times.oracle.as_secs_f64();
     println!(
-        "{name:26} library {}   oracle {}   ratio {:5.2}",
+        "{name:26} library {}   oracle {}   ratio {ratio:5.2}",
         time(times.library),
         time(times.oracle),
-        times.library.as_secs_f64() / times.oracle.as_secs_f64(),
     );
+    ratio <= LIMIT
 }
 
 /// How long a day's recording takes at the pace of the loop that was measured.
@@ -128,14 +134,15 @@ fn report_day(of: &Loop, times: &Times) {
     );
 }
 
-fn main() {
-    let measure = |of: &Loop| {
+fn main() -> ExitCode {
+    println!("{STEPS} steps in portions of {PORTION} records; the least of {ROUNDS} rounds each; all answers compared");
+    let mut within = true;
+    let mut measure = |of: &Loop| {
         of.check();
         let times = best(|| steps(of));
-        report(of.name, STEPS, "step", &times);
+        within &= report(of.name, STEPS, "step", &times);
         times
     };
-    println!("{STEPS} steps in portions of {PORTION} records; the least of {ROUNDS} rounds each; all answers agree");
     let registers = loops::registers();
     measure(&registers);
     measure(&loops::cru());
@@ -143,11 +150,17 @@ fn main() {
     measure(&loops::x());
     let sample = loops::measuring();
     let times = measure(&sample);
-    report(
+    within &= report(
         "images written and read",
         IMAGES,
         "pair",
         &best(|| images(&registers.image)),
     );
     report_day(&sample, &times);
+    if within {
+        ExitCode::SUCCESS
+    } else {
+        eprintln!("bench: a line is beyond {LIMIT} times the ordinary program's time");
+        ExitCode::FAILURE
+    }
 }
