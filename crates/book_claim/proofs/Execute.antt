@@ -18,8 +18,8 @@ use Rattle.machine.specs.Perform.{perform, accesses, fetches, even}
 use Rattle.machine.specs.Operands.{register-at, register, operand}
 use Rattle.machine.specs.Groups as G
 use Rattle.machine.specs.Execute.{command-deed, instruction, again, execute}
+use Rattle.machine.proofs.Loads.{loads-bind, operand-loads, load-loads}
 use Rattle.book_claim.specs.Claim.{Stands}
-use Rattle.book_claim.proofs.Steady.{steady-bind, operand-steady, load-steady}
 use Rattle.book_claim.proofs.Does.{Judgement, Does, Movable, after-steady, then-done}
 use Rattle.book_claim.proofs.Switch.{noted, Saved, saved-movable, blwp-saves, xop-operand-saves}
 
@@ -96,7 +96,7 @@ unfolding again execute
 x-means zero o = unassigned
 x-means (suc k) o =
     after-steady Meant meant-movable (operand Word o >>= load Word) (execute k)
-    (steady-bind (operand Word o) (load Word) (operand-steady Word o) (load-steady Word))
+    (loads-bind _ (operand Word o) (load Word) (operand-loads _ Word o) (load-loads _ Word))
     (λ w. instruction-means (again k) (x-means k) (decoded w))
 
 pub executed : (k w : ℕ) → Does Meant (execute k w)

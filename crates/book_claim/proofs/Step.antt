@@ -19,10 +19,11 @@ use Rattle.machine.specs.declared.Signal.{Signal}
 use Rattle.machine.specs.declared.Signal.the-variants.{Reset as reset, Load as load, Nothing as none, Level as level}
 use Rattle.machine.specs.Step.{signal, admitted, enter, proceed, boundary, clocked, stepping, step}
 use Rattle.machine.proofs.Laws.{Form, keeps-form}
+use Rattle.machine.proofs.Loads.{registers-loads, set-loads, fetched-loads}
 use Rattle.run_rules.proofs.Laws.{clocked-form}
 use Rattle.book.specs.Book.{step-accesses}
 use Rattle.book_claim.specs.Claim.{Stands}
-use Rattle.book_claim.proofs.Steady.{Steady, registers-steady, fetched-steady}
+use Rattle.book_claim.proofs.Steady.{Steady}
 use Rattle.book_claim.proofs.Does.{Fit, fit-kept, Judgement, Does, Movable, after-steady, then-done, does-if}
 use Rattle.book_claim.proofs.Switch.{noted, enter-saves}
 use Rattle.book_claim.proofs.Execute.{Meant, meant-movable, executed}
@@ -60,8 +61,7 @@ proceeded-means (was-level k) m n words d = absurd d
 proceeded-means (ran e) m n words d = d
 
 flags-steady : (x : ℕ) → Steady (set to-flags x)
-unfolding Steady set
-flags-steady x = tt
+flags-steady x = set-loads _ to-flags x tt
 
 idles : Does Proceeded (done was-idle)
 unfolding Proceeded perform
@@ -77,10 +77,10 @@ follow = after-steady Proceeded proceeded-movable
 proceeds : Does Proceeded proceed
 unfolding proceed
 proceeds =
-    follow registers _ registers-steady
+    follow registers _ (registers-loads _)
     (λ r. follow (set to-flags (put no-sample false (r .flags))) _ (flags-steady _)
     (λ u. does-if Proceeded (bit idle (r .flags)) (done was-idle) _ idles
-    (follow fetched _ fetched-steady runs-word)))
+    (follow fetched _ (fetched-loads _) runs-word)))
 
 bounds : (s : Signal) → Does Meaning (boundary s)
 unfolding boundary Meaning

@@ -19,9 +19,9 @@ use Rattle.machine.specs.Perform.{perform, accesses, fetches, even}
 use Rattle.machine.specs.Operands.{register-at, set-register, operand}
 use Rattle.machine.specs.Groups.{set-status, switch, switch-by-operand, switch-by-number}
 use Rattle.machine.specs.Step.{enter}
+use Rattle.machine.proofs.Loads.{operand-loads}
 use Rattle.book.specs.Book.{Note}
 use Rattle.book_claim.specs.Claim.{Stands}
-use Rattle.book_claim.proofs.Steady.{operand-steady}
 use Rattle.book_claim.proofs.Does.{Judgement, Does, Movable, after-steady}
 
 -- two words at places apart have no byte in common
@@ -115,7 +115,7 @@ enter-saves vector f v m h = switch-saves vector v m h
 
 pub blwp-saves : (o : Operand) → Does Saved (switch-by-operand o)
 unfolding switch-by-operand
-blwp-saves o = after-steady Saved saved-movable (operand Word o) switch (operand-steady Word o) switch-saves
+blwp-saves o = after-steady Saved saved-movable (operand Word o) switch (operand-loads _ Word o) switch-saves
 
 -- XOP stores into the new R11 after its context switch.
 xop-saves : (vector a : ℕ) → Does Saved (switch vector >> (set-status (put extended true) >> set-register 11 a))
@@ -132,4 +132,4 @@ xop-saves vector a v m h =
 pub xop-operand-saves : (o : Operand) (n : ℕ) → Does Saved (switch-by-number o n)
 unfolding switch-by-number
 xop-operand-saves o n =
-    after-steady Saved saved-movable (operand Word o) _ (operand-steady Word o) (λ a. xop-saves (64 + 4 * n) a)
+    after-steady Saved saved-movable (operand Word o) _ (operand-loads _ Word o) (λ a. xop-saves (64 + 4 * n) a)

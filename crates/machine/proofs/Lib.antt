@@ -1,4 +1,5 @@
 pub mod Marked
 pub mod Bind
 pub mod Laws
+pub mod Loads
 pub mod Order
