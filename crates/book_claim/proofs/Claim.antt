@@ -1,22 +1,20 @@
 -- The claim: what one step keeps, the steps of a call keep, by induction on them; a refused call has no steps and changes
 -- nothing; and what was observed of a call is what the rules give, so the calls of a list keep it one after the other.
-use Prim.Native.Nat.{ℕ, zero, suc}
-use mathlib.Core.Path.{_≡_, refl, ap}
-use mathlib.Core.Bool.{Bool, true, false}
+use Prim.Native.Nat.{ℕ}
+use mathlib.Core.Path.{_≡_, ap}
 use mathlib.Core.List.{List, [], _∷_}
 use lib.ListN.{length}
-use lib.Dec.{eqb}
-use borrow.Author.Tests.{eqb-true}
 use Rattle.machine.specs.declared.State.{State}
 use Rattle.machine.specs.State.{Machine, at}
 use Rattle.machine.specs.Step.{step}
-use Rattle.machine.specs.Run.{runs, run, run-refusal, RunResult}
+use Rattle.machine.specs.Run.{runs, run-refusal, RunResult}
 use Rattle.machine.specs.Laws.{Words}
 use Rattle.machine.proofs.Laws.{form}
 use Rattle.run_rules.proofs.Laws as Laws
 use Rattle.book.specs.Book.{Book, turn, event, Moment, moment, moments, book-after, Call, call-moments, call-machine, all-moments}
 use Rattle.book_claim.specs.Claim.{Seen, calls, Chained, Each, Respected, Given-back, Kept, Last-given-back, Calls-kept, Open-entries-are-kept}
 use Rattle.book_claim.proofs.Each.{each-map, each-split, each-append}
+use Rattle.book_claim.proofs.Steps.{every-run, every-call}
 use Rattle.book_claim.proofs.Step.{Sound, step-sound}
 use Rattle.book_claim.proofs.Kept.{Good, step-kept}
 
@@ -42,19 +40,6 @@ nothing : (P : State → Type 0) (b : Book) (m : Machine) → Words (m .state) �
 unfolding Each book-after Last
 nothing P b m h g p = record { kept = tt; words = h; good = g; last = p }
 
--- a run that stops at once, and one that makes a step
-module _ (stop n r : ℕ) (rs : List ℕ) (m : Machine) (b : Book) where
-  stops : eqb (m .state .pc) stop ≡ true → (moments stop (suc n) (r ∷ rs) m b ≡ []) × (runs stop (suc n) (r ∷ rs) m .machine ≡ m)
-  unfolding moments
-  stops e = (rw (e, moments), rw (Laws.stopped stop (suc n) (r ∷ rs) m e))
-
-  goes :
-      eqb (m .state .pc) stop ≡ false
-      → (moments stop (suc n) (r ∷ rs) m b ≡ moment r m b ∷ moments stop n rs (step r m .machine) (turn (event r m) b))
-      × (runs stop (suc n) (r ∷ rs) m .machine ≡ runs stop n rs (step r m .machine) .machine)
-  unfolding moments
-  goes e = (rw (e, moments), rw (Laws.goes-on stop n r rs m e))
-
 -- one step more in front
 one-more :
     (P : State → Type 0) (r : ℕ) (m n : Machine) (b : Book) (xs : List Moment)
@@ -63,41 +48,20 @@ unfolding Each moment book-after Last
 one-more P r m n b xs k t = record { kept = (k, t .kept); words = t .words; good = t .good; last = t .last }
 
 -- a run's steps keep what is claimed
-abbrev Runs-through : (State → Type 0) → ℕ → ℕ → List ℕ → Machine → Book → Type 0
-Runs-through P stop n rs m b =
-    Sound m → Each (Good (m .memory)) b → P (m .state)
-    → Each Respected (moments stop n rs m b)
-    → Through P b (moments stop n rs m b) (runs stop n rs m .machine)
+abbrev Runs-through : Machine → Book → List Moment → Machine → Type 1
+Runs-through m b xs n =
+    (P : State → Type 0) → Sound m → Each (Good (m .memory)) b → P (m .state) → Each Respected xs → Through P b xs n
 
-step-through :
-    (P : State → Type 0) (stop n r : ℕ) (rs : List ℕ) (m : Machine) (b : Book)
-    → Runs-through (Given-back (event r m) b) stop n rs (step r m .machine) (turn (event r m) b)
-    → Runs-through P stop (suc n) (r ∷ rs) m b
+more-through : (r : ℕ) (m n : Machine) (b : Book) (xs : List Moment) → Runs-through (step r m .machine) (turn (event r m) b) xs n → Runs-through m b (moment r m b ∷ xs) n
 unfolding Each moment
-step-through P stop n r rs m b later h g p e = by-test (eqb (m .state .pc) stop) refl
-  where
-    by-test :
-        (t : Bool) → eqb (m .state .pc) stop ≡ t
-        → Through P b (moments stop (suc n) (r ∷ rs) m b) (runs stop (suc n) (r ∷ rs) m .machine)
-    by-test true t =
-        let q = stops stop n r rs m b t in
-        rw (q .0, q .1) (nothing P b m (h .fit .words) g p)
-    by-test false t =
-        let q = goes stop n r rs m b t in
-        let f = rw (q .0) at e in
-        let k = step-kept r m b h g (f .0) in
-        rw (q .0, q .1) (one-more P r m _ b _ (k .1) (later (step-sound r m h) (k .0) (k .1 .given-back) (f .1)))
+more-through r m n b xs later P h g p e =
+    let k = step-kept r m b h g (e .0) in
+    one-more P r m n b xs (k .1) (later (Given-back (event r m) b) (step-sound r m h) (k .0) (k .1 .given-back) (e .1))
 
-through : (P : State → Type 0) (stop n : ℕ) (rs : List ℕ) (m : Machine) (b : Book) → Runs-through P stop n rs m b
-unfolding moments runs
-through P stop zero rs m b h g p e = nothing P b m (h .fit .words) g p
-through P stop (suc n) [] m b h g p e = nothing P b m (h .fit .words) g p
-through P stop (suc n) (r ∷ rs) m b h g p e =
-    step-through P stop n r rs m b
-    (through (Given-back (event r m) b) stop n rs (step r m .machine) (turn (event r m) b))
-    h g p e
+through : (stop n : ℕ) (rs : List ℕ) (m : Machine) (b : Book) → Runs-through m b (moments stop n rs m b) (runs stop n rs m .machine)
+through = every-run Runs-through (λ m b P h g p e. nothing P b m (h .fit .words) g p) more-through
 
--- an accepted call: memory is installed, the state is well formed, and its steps are the run's; a refused one: nothing
+-- an accepted call: memory is installed, and the state is well formed
 accepted-sound :
     (m : Machine) (records : List ℕ) (steps : ℕ)
     → Words (m .state) → run-refusal (length (m .memory)) (m .state) (length records) steps ≡ 0 → Sound m
@@ -108,37 +72,14 @@ accepted-sound m records steps h e =
       form = form (m .state) (a .formed);
     }
 
-module _ (m : Machine) (b : Book) (c : Call) where
-  accepted :
-      eqb (run-refusal (length (m .memory)) (m .state) (length (c .records)) (c .steps)) 0 ≡ true
-      → (call-moments m b c ≡ moments (c .stop) (c .steps) (c .records) m b)
-      × (call-machine m c ≡ runs (c .stop) (c .steps) (c .records) m .machine)
-  unfolding call-moments call-machine run
-  accepted e = (rw e, rw e)
-
-  refused :
-      eqb (run-refusal (length (m .memory)) (m .state) (length (c .records)) (c .steps)) 0 ≡ false
-      → (call-moments m b c ≡ []) × (call-machine m c ≡ m)
-  unfolding call-moments call-machine run
-  refused e = (rw e, rw e)
-
 call-through :
     (m : Machine) (b : Book) (c : Call)
     → Words (m .state) → Each (Good (m .memory)) b → Each Respected (call-moments m b c)
     → Through (λ s. Unit) b (call-moments m b c) (call-machine m c)
-call-through m b c h g e = by-test (eqb refusal 0) refl
-  where
-    refusal : ℕ
-    refusal = run-refusal (length (m .memory)) (m .state) (length (c .records)) (c .steps)
-
-    by-test : (t : Bool) → eqb refusal 0 ≡ t → Through (λ s. Unit) b (call-moments m b c) (call-machine m c)
-    by-test true t =
-        let q = accepted m b c t in
-        let sound = accepted-sound m (c .records) (c .steps) h (eqb-true refusal 0 t) in
-        rw (q .0, q .1) (through (λ s. Unit) (c .stop) (c .steps) (c .records) m b sound g tt (rw (q .0) at e))
-    by-test false t =
-        let q = refused m b c t in
-        rw (q .0, q .1) (nothing (λ s. Unit) b m h g tt)
+call-through m b c h g =
+    every-call (λ xs n. Each Respected xs → Through (λ s. Unit) b xs n) m b c
+    (λ r. through (c .stop) (c .steps) (c .records) m b (λ s. Unit) (accepted-sound m (c .records) (c .steps) h r) g tt)
+    (λ e. nothing (λ s. Unit) b m h g tt)
 
 -- the calls of a list
 all-through :

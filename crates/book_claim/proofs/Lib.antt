@@ -1,4 +1,5 @@
 pub mod Each
+pub mod Steps
 pub mod Steady
 pub mod Does
 pub mod Switch
