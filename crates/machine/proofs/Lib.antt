@@ -2,4 +2,5 @@ pub mod Marked
 pub mod Bind
 pub mod Laws
 pub mod Loads
+pub mod Flags
 pub mod Order

@@ -7,6 +7,7 @@ pub mod Execute
 pub mod Step
 pub mod Run
 pub mod Laws
+pub mod Flags
 pub mod Order
 pub mod Rules
 pub mod Cases
