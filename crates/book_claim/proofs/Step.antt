@@ -18,9 +18,9 @@ use Rattle.machine.specs.declared.Kind.the-variants.{Reset as was-reset, Load a
 use Rattle.machine.specs.declared.Signal.{Signal}
 use Rattle.machine.specs.declared.Signal.the-variants.{Reset as reset, Load as load, Nothing as none, Level as level}
 use Rattle.machine.specs.Step.{signal, admitted, enter, proceed, boundary, clocked, stepping, step}
-use Rattle.machine.proofs.Laws.{Form, keeps-form}
+use Rattle.machine.proofs.Laws.{Form}
+use Rattle.machine.proofs.Flags.{step-form}
 use Rattle.machine.proofs.Loads.{registers-loads, set-loads, fetched-loads}
-use Rattle.run_rules.proofs.Laws.{clocked-form}
 use Rattle.book.specs.Book.{step-accesses}
 use Rattle.book_claim.specs.Claim.{Stands}
 use Rattle.book_claim.proofs.Steady.{Steady}
@@ -78,9 +78,9 @@ proceeds : Does Proceeded proceed
 unfolding proceed
 proceeds =
     follow registers _ (registers-loads _)
-    (λ r. follow (set to-flags (put no-sample false (r .flags))) _ (flags-steady _)
-    (λ u. does-if Proceeded (bit idle (r .flags)) (done was-idle) _ idles
-    (follow fetched _ (fetched-loads _) runs-word)))
+    (λ r. does-if Proceeded (bit idle (r .flags)) (done was-idle) _ idles
+    (follow (set to-flags (put no-sample false (r .flags))) _ (flags-steady _)
+    (λ u. follow fetched _ (fetched-loads _) runs-word)))
 
 bounds : (s : Signal) → Does Meaning (boundary s)
 unfolding boundary Meaning
@@ -139,5 +139,5 @@ step-sound word m h =
     let start : Machine = clocked (p .cycles) m in
     record {
       fit = fit-kept (p .levels) (stepping (p .levels) start) start (clocked-fit (p .cycles) m (h .fit));
-      form = keeps-form (p .levels) (stepping (p .levels) start) start (clocked-form (p .cycles) m (h .form));
+      form = step-form word m (h .form);
     }

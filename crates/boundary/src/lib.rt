@@ -29,19 +29,19 @@ pub fn enter(bytes: &mut [u8], state: State, signal: Signal) -> State
     bus::set_flags(judged, bits::put(flags, State::IDLE, false))
 }
 
-// No entry: no-sample is cleared; an idle machine does nothing more, any other executes one instruction.
+// No entry: an idle machine does nothing; any other clears no-sample and executes one instruction.
 fn proceed(bytes: &mut [u8], state: State, levels: u32) -> Stepped
     requires { ⌜ Installed (now bytes) ⌝ }
     ensures { λ r. ⌜ perform levels Step.proceed (at state (now (bytes .entry))) ≡ performed (r .kind) (at (r .state) (now (bytes .exit))) ⌝ }
 {
     let flags = state.flags;
-    let sampled = bus::set_flags(state, bits::put(flags, State::NO_SAMPLE, false));
     if bits::bit(flags as u32, State::IDLE) {
         return Stepped {
             kind: Kind::Idle,
-            state: sampled,
+            state,
         };
     }
+    let sampled = bus::set_flags(state, bits::put(flags, State::NO_SAMPLE, false));
     let word = bus::fetch(bytes, sampled);
     let fetched = word.state;
     let executed = cpu::perform(bytes, fetched, levels, word.value, cpu::ALLOWANCE);

@@ -66,27 +66,27 @@ entries-leave-the-psi word m c =
     (e, rw e (alike-advanced (parted word .cycles) (m .state .psi)))
 
 -- the flags after an entry of the five, and after one that the pins cause
-unsampled : (k : Kind) (f : ℕ) → Entry k → Flags-by-step k f → bit no-sample f ≡ true
+unsampled : (k : Kind) (e f : ℕ) → Entry k → Flags-by-step k e f → bit no-sample f ≡ true
 unfolding bit Entry Flags-by-step Flags-by-word
-unsampled was-reset f e h = rw h
-unsampled was-load f e h = rw h
-unsampled (was-level k) f e h = rw h
-unsampled was-idle f e h = absurd e
-unsampled (ran Ordinary) f e h = absurd e
-unsampled (ran Unassigned) f e h = absurd e
-unsampled (ran Switched) f e h = rw h
-unsampled (ran Returned) f e h = absurd e
+unsampled was-reset e f c h = rw h
+unsampled was-load e f c h = rw h
+unsampled (was-level k) e f c h = rw h
+unsampled was-idle e f c h = absurd c
+unsampled (ran Ordinary) e f c h = absurd c
+unsampled (ran Unassigned) e f c h = absurd c
+unsampled (ran Switched) e f c h = rw h
+unsampled (ran Returned) e f c h = absurd c
 
-awake : (k : Kind) (f : ℕ) → Caused k → Flags-by-step k f → bit idle f ≡ false
+awake : (k : Kind) (e f : ℕ) → Caused k → Flags-by-step k e f → bit idle f ≡ false
 unfolding bit Caused Flags-by-step
-awake was-reset f c h = rw h
-awake was-load f c h = rw h
-awake (was-level k) f c h = rw h
-awake was-idle f c h = absurd c
-awake (ran d) f c h = absurd c
+awake was-reset e f c h = rw h
+awake was-load e f c h = rw h
+awake (was-level k) e f c h = rw h
+awake was-idle e f c h = absurd c
+awake (ran d) e f c h = absurd c
 
 pub entries-set-no-sample : Entries-set-no-sample
-entries-set-no-sample word m e = unsampled (step word m .value) _ e (steps-tell-the-flags word m)
+entries-set-no-sample word m c = unsampled (step word m .value) (m .state .flags) _ c (steps-tell-the-flags word m)
 
 pub entries-clear-idle : Entries-clear-idle
-entries-clear-idle word m c = awake (step word m .value) _ c (steps-tell-the-flags word m)
+entries-clear-idle word m c = awake (step word m .value) (m .state .flags) _ c (steps-tell-the-flags word m)

@@ -7,19 +7,18 @@ use native.Mathlib.Omega.{arith}
 use native.Mathlib.Decide.{decLt}
 use borrow.Author.Tests.{eqb-true, eqb-false, ltb-true, ltb-false, leb-true, eq-eqb, ne-eqb, lt-ltb, le-ltb, le-leb}
 use lib.Dec.{eqb, ltb, leb}
-use Rattle.bits.specs.Bits.{if_then_else_, bit}
+use Rattle.bits.specs.Bits.{bit}
 use Rattle.psi.specs.declared.Psi.{Psi}
 use Rattle.psi.specs.Pins.{parted, request, code}
 use Rattle.psi.proofs.Cases.{either-way}
 use Rattle.psi.proofs.RequestLaws.{request-meaning}
 use Rattle.machine.specs.State.{Registers, Machine, registers, idle, no-sample}
-use Rattle.machine.specs.Micro.{done, _>>=_, fetched}
+use Rattle.machine.specs.Micro.{Micro}
 use Rattle.machine.specs.Perform.{perform}
-use Rattle.machine.specs.Execute.{execute, allowance}
 use Rattle.machine.specs.declared.Signal.{Signal}
 use Rattle.machine.specs.declared.Signal.the-variants.{Reset as reset, Load as load, Nothing as none, Level as level}
 use Rattle.machine.specs.declared.Kind.{Kind}
-use Rattle.machine.specs.declared.Kind.the-variants.{Reset as was-reset, Load as was-load, Idle as was-idle, Level as was-level, Ran as ran}
+use Rattle.machine.specs.declared.Kind.the-variants.{Reset as was-reset, Load as was-load, Level as was-level}
 use Rattle.machine.specs.Step.{signal, admitted, boundary, proceed, clocked, stepping, step}
 use Rattle.machine.proofs.Bind.{perform-bind, perform-done, perform-registers}
 use Rattle.claims.specs.Interrupts.{Lowest, Levels-exactly, None-unsampled, Load-exactly, Reset-exactly, taken, Kinds-tell}
@@ -121,16 +120,12 @@ unfolding step stepping at-step
 step-is word m = rw (perform-bind, perform-registers)
 
 -- each microprogram of a boundary ends by saying its kind
-goes-on :
-    (v : ℕ) (b : Bool) (m : Machine)
-    → taken (perform v (if b then done was-idle else (fetched >>= λ w. execute allowance w >>= λ d. done (ran d))) m .value) ≡ none
-unfolding taken
-goes-on v true m = rw perform-done
-goes-on v false m = rw (perform-bind, perform-bind, perform-done)
-
 proceeds : (v : ℕ) (m : Machine) → taken (perform v proceed m .value) ≡ none
-unfolding proceed
-proceeds v m = rw (perform-bind, perform-registers, perform-bind) (goes-on v (bit idle (m .state .flags)) _)
+unfolding taken proceed
+proceeds v m =
+    rw (perform-bind, perform-registers)
+    (either-way (λ (p : Micro Kind). taken (perform v p m .value) ≡ none) (bit idle (m .state .flags))
+    (λ t. rw perform-done) (λ f. rw (perform-bind, perform-bind, perform-bind, perform-done)))
 
 taken-boundary : (v : ℕ) (g : Signal) (m : Machine) → taken (perform v (boundary g) m .value) ≡ g
 unfolding boundary taken

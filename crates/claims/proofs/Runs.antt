@@ -12,14 +12,14 @@ use lib.Dec.{eqb}
 use lib.ListN.{length, drop, length-drop}
 use Rattle.memory.specs.Memory.{size}
 use Rattle.psi.proofs.Cases.{either-way}
-use Rattle.psi.specs.Pins.{parted}
 use Rattle.machine.specs.declared.State.{State}
 use Rattle.machine.specs.State.{Machine, at, well-formed}
 use Rattle.machine.specs.declared.Kind.{Kind}
 use Rattle.machine.specs.Step.{step}
 use Rattle.machine.specs.Run.{Ran, at-once, one-more, runs, run-refusal, RunResult, run}
-use Rattle.run_rules.proofs.Laws.{clocked-form, missed-at-most, stopped, goes-on, accepted}
-use Rattle.machine.proofs.Laws.{form, formed, keeps-form, keeps-the-length}
+use Rattle.run_rules.proofs.Laws.{missed-at-most, stopped, goes-on, accepted}
+use Rattle.machine.proofs.Laws.{form, keeps-the-length}
+use Rattle.machine.proofs.Flags.{keeps-well-formed}
 use Rattle.claims.specs.Runs.{followed, Runs-in-parts, Refused-runs, Accepted-exactly, Steps-at-most, Stops-exactly, Odd-never-stops}
 
 -- what a machine needs for a run to be accepted, and a step keeps
@@ -32,7 +32,7 @@ unfolding step
 step-fit word m f =
     record {
       sized = keeps-the-length _ _ _ ∙ f .sized;
-      formed = formed _ (keeps-form _ _ _ (clocked-form (parted word .cycles) m (form _ (f .formed))));
+      formed = keeps-well-formed word m (f .formed);
     }
 
 module _ (stop : ℕ) where

@@ -1,12 +1,15 @@
 -- A word is executed with both flags cleared; then the context switch sets no-sample alone, IDLE sets idle alone, and all else leaves
--- the flags, at once or after X's operands. An entry sets no-sample and clears idle.
-use Prim.Native.Nat.{ℕ, zero, suc, _/_, _%_}
+-- the flags, at once or after X's operands. An entry sets no-sample and clears idle. So flags of at most 2 stay so.
+use Prim.Native.Nat.{ℕ, zero, suc, _/_, _%_, _≤_}
 use mathlib.Core.Path.{_≡_, refl, _∙_}
-use mathlib.Core.Bool.{Bool, true, false}
+use mathlib.Core.Bool.{false}
 use native.Mathlib.Omega.{arith}
-use borrow.Author.Tests.{eqb-true, eqb-false}
-use Rattle.bits.specs.Bits.{if_then_else_, bit, put}
+use borrow.Author.Tests.{eqb-false}
+use Rattle.bits.specs.Bits.{bit, put}
 use Rattle.memory.specs.declared.Width.the-variants.{Word}
+use Rattle.psi.specs.Pins.{parted}
+use Rattle.psi.proofs.Cases.{either-way}
+use Rattle.psi.proofs.Kept.{kept-formed}
 use Rattle.isa.specs.declared.Operand.{Operand}
 use Rattle.isa.specs.declared.ControlOp.{ControlOp}
 use Rattle.isa.specs.declared.ControlOp.the-variants.{Idle, Rset, Rtwp, Ckon, Ckof, Lrex}
@@ -16,7 +19,7 @@ use Rattle.isa.specs.Isa.{decoded}
 use Rattle.machine.specs.declared.Deed.{Deed}
 use Rattle.machine.specs.declared.Deed.the-variants as deed
 use Rattle.machine.specs.declared.Kind.{Kind}
-use Rattle.machine.specs.declared.Kind.the-variants.{Idle as was-idle, Ran as ran}
+use Rattle.machine.specs.declared.Kind.the-variants.{Reset as was-reset, Load as was-load, Idle as was-idle, Level as was-level, Ran as ran}
 use Rattle.machine.specs.declared.Signal.{Signal}
 use Rattle.machine.specs.declared.Signal.the-variants.{Reset as reset, Load as load-line, Level as level, Nothing as none}
 use Rattle.machine.specs.State.{Machine, idle}
@@ -25,9 +28,10 @@ use Rattle.machine.specs.Perform.{perform}
 use Rattle.machine.specs.Operands.{set-register, operand}
 use Rattle.machine.specs.Groups as G
 use Rattle.machine.specs.Execute.{command-deed, instruction, again, execute, allowance}
-use Rattle.machine.specs.Step.{vector, entry-status, enter, proceed, boundary, stepping, step}
-use Rattle.machine.specs.Flags.{Flags-by-word, Flags-by-step, Steps-tell-the-flags}
+use Rattle.machine.specs.Step.{vector, entry-status, enter, proceed, boundary, clocked, stepping, step}
+use Rattle.machine.specs.Flags.{Flags-by-word, Flags-by-step, Steps-tell-the-flags, Keeps-well-formed}
 use Rattle.machine.proofs.Bind.{perform-bind, perform-done}
+use Rattle.machine.proofs.Laws.{keeps-even, keeps-the-psi-formed, Form, form, formed}
 use Rattle.machine.proofs.Loads as Loads
 
 -- what a microprogram's value and the flags after it are, where it begins with cleared flags
@@ -116,38 +120,33 @@ executes : (k w : ℕ) → Leads Flags-by-word (execute k w)
 unfolding execute
 executes k w = instructs (again k) (instructs-again k) (decoded w)
 
--- an executed word, and an idle step
-runs-word : Leads Flags-by-step (fetched >>= λ w. execute allowance w >>= λ d. done (ran d))
+-- a step without an entry: idle, or a word executed with both flags cleared
+runs-word : (e : ℕ) → Leads (λ k f. Flags-by-step k e f) (fetched >>= λ w. execute allowance w >>= λ d. done (ran d))
 unfolding Flags-by-step
-runs-word =
-    follows Flags-by-step fetched _ (Loads.fetched-loads _)
-    (λ w. ends Flags-by-word Flags-by-step ran (λ d f h. h) (execute allowance w) (executes allowance w))
+runs-word e =
+    follows (λ k f. Flags-by-step k e f) fetched _ (Loads.fetched-loads _)
+    (λ w. ends Flags-by-word (λ k f. Flags-by-step k e f) ran (λ d f h. h) (execute allowance w) (executes allowance w))
 
 awake : (f : ℕ) → bit idle f ≡ false → f % 2 ≡ 0
 unfolding bit
 awake f e = omega (arith, eqb-false (f / 1 % 2) 1 e)
 
-asleep : (f : ℕ) → bit idle f ≡ true → f % 2 ≡ 1
-unfolding bit
-asleep f e = omega (arith, eqb-true (f / 1 % 2) 1 e)
+-- what is said of a microprogram at a boundary
+abbrev Tells : Micro Kind → Type 0
+Tells p = (v : ℕ) (m : Machine) → Flags-by-step (perform v p m .value) (m .state .flags) (perform v p m .machine .state .flags)
 
-proceeds : (v : ℕ) (m : Machine) → Flags-by-step (perform v proceed m .value) (perform v proceed m .machine .state .flags)
+proceeds : Tells proceed
 unfolding Leads Flags-by-step perform put proceed registers set
-proceeds v m = by-idle (bit idle (m .state .flags)) refl _ (omega arith)
-  where
-    rest : Bool → Micro Kind
-    rest b = if b then done was-idle else (fetched >>= λ w. execute allowance w >>= λ d. done (ran d))
-
-    by-idle : (b : Bool) → bit idle (m .state .flags) ≡ b → (n : Machine) → n .state .flags ≡ m .state .flags % 2 → Flags-by-step (perform v (rest b) n .value) (perform v (rest b) n .machine .state .flags)
-    by-idle true e n c = c ∙ asleep (m .state .flags) e
-    by-idle false e n c = runs-word v n (c ∙ awake (m .state .flags) e)
+proceeds v m =
+    either-way (λ (p : Micro Kind). Flags-by-step (perform v p m .value) (m .state .flags) (perform v p m .machine .state .flags))
+    (bit idle (m .state .flags)) (λ t. (t, refl)) (λ f. runs-word (m .state .flags) v _ (omega (arith, awake (m .state .flags) f)))
 
 -- an entry, from any flags
 enters : (a : ℕ) (f : ℕ → ℕ) (v : ℕ) (m : Machine) → perform v (enter a f) m .machine .state .flags ≡ 2
 unfolding perform put enter G.switch G.set-status registers set load store set-register
 enters a f v m = omega arith
 
-pub bounds : (g : Signal) (v : ℕ) (m : Machine) → Flags-by-step (perform v (boundary g) m .value) (perform v (boundary g) m .machine .state .flags)
+bounds : (g : Signal) → Tells (boundary g)
 unfolding boundary Flags-by-step
 bounds reset v m = rw (perform-bind, perform-done) (enters (vector reset) (entry-status reset) v m)
 bounds load-line v m = rw (perform-bind, perform-done) (enters (vector load-line) (entry-status load-line) v m)
@@ -157,3 +156,39 @@ bounds none v m = proceeds v m
 pub steps-tell-the-flags : Steps-tell-the-flags
 unfolding step stepping registers perform
 steps-tell-the-flags word m = bounds _ _ _
+
+-- so flags of at most 2 stay so, whatever the step was
+at-most-2 : (k : Kind) (e f : ℕ) → Flags-by-step k e f → e ≤ 2 → f ≤ 2
+unfolding Flags-by-step Flags-by-word
+at-most-2 was-reset e f h l = omega arith
+at-most-2 was-load e f h l = omega arith
+at-most-2 (was-level k) e f h l = omega arith
+at-most-2 was-idle e f h l = omega (arith, h .1)
+at-most-2 (ran deed.Ordinary) e f h l = omega arith
+at-most-2 (ran deed.Unassigned) e f h l = omega arith
+at-most-2 (ran deed.Switched) e f h l = omega arith
+at-most-2 (ran deed.Returned) e f h l = omega arith
+
+-- and a well-formed state stays one, at a boundary and over a step
+pub boundary-form : (g : Signal) (v : ℕ) (m : Machine) → Form (m .state) → Form (perform v (boundary g) m .machine .state)
+boundary-form g v m f =
+    record {
+      even = keeps-even v (boundary g) m (f .even);
+      flags = at-most-2 _ _ _ (bounds g v m) (f .flags);
+      psi = keeps-the-psi-formed v (boundary g) m (f .psi);
+    }
+
+clocked-form : (cycles : ℕ) (m : Machine) → Form (m .state) → Form (clocked cycles m .state)
+clocked-form cycles m f =
+    record {
+      even = record { wp = f .even .wp; pc = f .even .pc };
+      flags = f .flags;
+      psi = kept-formed .cycles cycles (f .psi);
+    }
+
+pub step-form : (word : ℕ) (m : Machine) → Form (m .state) → Form (step word m .machine .state)
+unfolding step stepping registers perform
+step-form word m f = boundary-form _ _ (clocked (parted word .cycles) m) (clocked-form (parted word .cycles) m f)
+
+pub keeps-well-formed : Keeps-well-formed
+keeps-well-formed word m w = formed _ (step-form word m (form (m .state) w))

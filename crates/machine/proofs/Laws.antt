@@ -14,9 +14,9 @@ use Rattle.psi.specs.Formed as Formed
 use Rattle.psi.proofs.Kept as Psi
 use Rattle.machine.specs.declared.State.{State}
 use Rattle.machine.specs.State.{Machine, registers, well-formed}
-use Rattle.machine.specs.Micro.{Micro, done, look, assign, fetch, read, write, sense, drive, Target, to-wp, to-pc, to-st, to-flags}
+use Rattle.machine.specs.Micro.{done, look, assign, fetch, read, write, sense, drive, Target, to-wp, to-pc, to-st, to-flags}
 use Rattle.machine.specs.Perform.{perform, accesses, written, after-assign, after-fetch, after-write, after-sense, after-drive, assigned}
-use Rattle.machine.specs.Laws.{Keeps-the-rest, Keeps-the-length, Keeps-bytes, Even, Keeps-even, Words, Keeps-words, Keeps-well-formed}
+use Rattle.machine.specs.Laws.{Keeps-the-rest, Keeps-the-length, Keeps-bytes, Even, Keeps-even, Words, Keeps-words, Keeps-the-psi-formed}
 
 -- both parts of a false disjunction are false
 or-left : (a b : Bool) → (a || b) ≡ false → a ≡ false
@@ -107,10 +107,25 @@ keeps-words v (drive b x k) m h =
     keeps-words v k (after-drive b x m)
     (record { wp = h .wp; pc = h .pc; st = h .st; flags = h .flags; psi = Psi.kept-fits .write b x (h .psi) })
 
+pub keeps-the-psi-formed : {A : Type 0} → Keeps-the-psi-formed A
+unfolding perform
+keeps-the-psi-formed v (done a) m h = h
+keeps-the-psi-formed v (look k) m h = keeps-the-psi-formed v (k (registers (m .state))) m h
+keeps-the-psi-formed v (assign to-wp x k) m h = keeps-the-psi-formed v k (after-assign to-wp x m) h
+keeps-the-psi-formed v (assign to-pc x k) m h = keeps-the-psi-formed v k (after-assign to-pc x m) h
+keeps-the-psi-formed v (assign to-st x k) m h = keeps-the-psi-formed v k (after-assign to-st x m) h
+keeps-the-psi-formed v (assign to-flags x k) m h = keeps-the-psi-formed v k (after-assign to-flags x m) h
+keeps-the-psi-formed v (fetch k) m h = keeps-the-psi-formed v (k (loaded Word (m .memory) (m .state .pc))) (after-fetch m) h
+keeps-the-psi-formed v (read w a k) m h = keeps-the-psi-formed v (k (loaded w (m .memory) a)) m h
+keeps-the-psi-formed v (write w a x k) m h = keeps-the-psi-formed v k (after-write w a x m) h
+keeps-the-psi-formed v (sense b k) m h =
+    keeps-the-psi-formed v (k (Cru.sensed (m .state .psi) v b .value)) (after-sense v b m) (Psi.kept-formed .read v b h)
+keeps-the-psi-formed v (drive b x k) m h = keeps-the-psi-formed v k (after-drive b x m) (Psi.kept-formed .write b x h)
+
 -- what well-formedness says
 pub record Form (s : State) : Type 0 where
   pub even : Even s
-  pub flags : s .flags ≤ 3
+  pub flags : s .flags ≤ 2
   pub psi : Formed.well-formed (s .psi) ≡ true
 
 pub form : (s : State) → well-formed s ≡ true → Form s
@@ -128,29 +143,3 @@ form s w =
 pub formed : (s : State) → Form s → well-formed s ≡ true
 unfolding well-formed
 formed s f = rw (eq-eqb _ _ (f .even .wp), eq-eqb _ _ (f .even .pc), le-leb _ _ (f .flags)) (f .psi)
-
-form-assigned : (t : Target) (x : ℕ) (m : Machine) → Form (m .state) → Form (assigned t x (m .state))
-form-assigned to-wp x m f = record { even = even-assigned to-wp x m (f .even); flags = f .flags; psi = f .psi }
-form-assigned to-pc x m f = record { even = even-assigned to-pc x m (f .even); flags = f .flags; psi = f .psi }
-form-assigned to-st x m f = record { even = even-assigned to-st x m (f .even); flags = f .flags; psi = f .psi }
-form-assigned to-flags x m f = record { even = even-assigned to-flags x m (f .even); flags = omega arith; psi = f .psi }
-
-pub keeps-form : {A : Type 0} (v : ℕ) (p : Micro A) (m : Machine) → Form (m .state) → Form (perform v p m .machine .state)
-unfolding perform
-keeps-form v (done a) m f = f
-keeps-form v (look k) m f = keeps-form v (k (registers (m .state))) m f
-keeps-form v (assign t x k) m f = keeps-form v k (after-assign t x m) (form-assigned t x m f)
-keeps-form v (fetch k) m f =
-    keeps-form v (k (loaded Word (m .memory) (m .state .pc))) (after-fetch m)
-    (record { even = record { wp = f .even .wp; pc = omega arith }; flags = f .flags; psi = f .psi })
-keeps-form v (read w a k) m f = keeps-form v (k (loaded w (m .memory) a)) m f
-keeps-form v (write w a x k) m f = keeps-form v k (after-write w a x m) f
-keeps-form v (sense b k) m f =
-    keeps-form v (k (Cru.sensed (m .state .psi) v b .value)) (after-sense v b m)
-    (record { even = record { wp = f .even .wp; pc = f .even .pc }; flags = f .flags; psi = Psi.kept-formed .read v b (f .psi) })
-keeps-form v (drive b x k) m f =
-    keeps-form v k (after-drive b x m)
-    (record { even = record { wp = f .even .wp; pc = f .even .pc }; flags = f .flags; psi = Psi.kept-formed .write b x (f .psi) })
-
-pub keeps-well-formed : {A : Type 0} → Keeps-well-formed A
-keeps-well-formed v p m w = formed _ (keeps-form v p m (form (m .state) w))

@@ -1,13 +1,13 @@
 -- What holds of every microprogram, so of every step.
 use Prim.Native.Nat.{ℕ, _%_, _<_}
 use mathlib.Core.Path.{_≡_}
-use mathlib.Core.Bool.{Bool, true, false}
-use mathlib.Core.List.{List}
+use mathlib.Core.Bool.{true, false}
 use lib.ListN.{length, getD}
 use Rattle.memory.specs.Memory.{Bytes, covers}
+use Rattle.psi.specs.Formed as Formed
 use Rattle.psi.specs.Kept.{Fits16}
 use Rattle.machine.specs.declared.State.{State}
-use Rattle.machine.specs.State.{Machine, well-formed}
+use Rattle.machine.specs.State.{Machine}
 use Rattle.machine.specs.Micro.{Micro}
 use Rattle.machine.specs.Perform.{perform, accesses, written}
 
@@ -48,7 +48,9 @@ pub record Words (s : State) : Type 0 where
 abbrev pub Keeps-words : Type 0 → Type 0
 Keeps-words A = (v : ℕ) (p : Micro A) (m : Machine) → Words (m .state) → Words (perform v p m .machine .state)
 
--- A well-formed state stays well formed.
-abbrev pub Keeps-well-formed : Type 0 → Type 0
-Keeps-well-formed A =
-    (v : ℕ) (p : Micro A) (m : Machine) → well-formed (m .state) ≡ true → well-formed (perform v p m .machine .state) ≡ true
+-- A well-formed PSI stays well formed.
+abbrev pub Keeps-the-psi-formed : Type 0 → Type 0
+Keeps-the-psi-formed A =
+    (v : ℕ) (p : Micro A) (m : Machine)
+    → Formed.well-formed (m .state .psi) ≡ true
+    → Formed.well-formed (perform v p m .machine .state .psi) ≡ true

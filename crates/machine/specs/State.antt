@@ -1,6 +1,6 @@
 -- The machine: its state and the lent memory.
-use Prim.Native.Nat.{ℕ, _*_, _/_, _%_}
-use mathlib.Core.Bool.{Bool, true, false, _&&_}
+use Prim.Native.Nat.{ℕ, _%_}
+use mathlib.Core.Bool.{Bool, _&&_}
 use mathlib.Core.List.{List}
 use lib.Dec.{eqb, leb}
 use Rattle.psi.specs.declared.Psi.{Psi}
@@ -19,12 +19,12 @@ no-sample = 1
 abbrev pub blank : State
 blank = record { wp = 0; pc = 0; st = 0; flags = 0; psi = Own.blank }
 
--- well formed: even WP and PC, two flags and no more, and the PSI's fields in order
+-- well formed: even WP and PC, at most one of the two flags (Q-12: at most 2), and the PSI's fields in order
 unfoldable pub well-formed : State → Bool
 well-formed s =
     eqb (s .wp % 2) 0
     && (eqb (s .pc % 2) 0
-    && (leb (s .flags) 3
+    && (leb (s .flags) 2
     && Formed.well-formed (s .psi)))
 
 -- the state less its PSI: all that an instruction may look at

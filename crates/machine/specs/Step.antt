@@ -1,19 +1,17 @@
 -- One step: the clock, the code, sampling and entries, or one instruction.
-use Prim.Native.Nat.{ℕ, _+_, _-_, _*_, _/_, _%_}
-use mathlib.Core.Bool.{Bool, true, false}
-use mathlib.Core.List.{List}
+use Prim.Native.Nat.{ℕ, _-_, _*_, _%_}
+use mathlib.Core.Bool.{false}
 use lib.Dec.{eqb, ltb, leb}
 use Rattle.bits.specs.Bits.{if_then_else_, bit, put}
 use Rattle.psi.specs.Clock as Clock
 use Rattle.psi.specs.Pins as Pins
 use Rattle.psi.specs.declared.Record.{Record}
-use Rattle.machine.specs.declared.State.{State}
 use Rattle.machine.specs.declared.Signal.{Signal}
 use Rattle.machine.specs.declared.Signal.the-variants.{Reset as reset, Load as load, Level as level, Nothing as none}
 use Rattle.machine.specs.declared.Kind.{Kind}
 use Rattle.machine.specs.declared.Kind.the-variants.{Reset as was-reset, Load as was-load, Idle as was-idle, Level as was-level, Ran as ran}
 use Rattle.machine.specs.State.{Registers, Machine, idle, no-sample, with-psi}
-use Rattle.machine.specs.Micro.{Micro, done, to-st, to-flags, _>>=_, _>>_, registers, set, fetched}
+use Rattle.machine.specs.Micro.{Micro, done, to-flags, _>>=_, _>>_, registers, set, fetched}
 use Rattle.machine.specs.Perform.{Performed, perform}
 use Rattle.machine.specs.Groups.{set-status, masked, switch}
 use Rattle.machine.specs.Execute.{execute, allowance}
@@ -44,13 +42,13 @@ enter vector f = do
   r ← registers
   set to-flags (put idle false (r .flags))
 
--- A step without an entry: requests are sampled again from the next one on; a machine that is not idle executes an instruction.
+-- A step without an entry: an idle machine does nothing; any other clears no-sample and executes an instruction.
 unfoldable pub proceed : Micro Kind
 proceed = do
   r ← registers
-  set to-flags (put no-sample false (r .flags))
   (if bit idle (r .flags) then done was-idle
       else (do
+        set to-flags (put no-sample false (r .flags))
         w ← fetched
         d ← execute allowance w
         done (ran d)))

@@ -5,7 +5,8 @@ use psi::Psi;
 
 pub mod bus;
 
-// WP, PC and ST; `flags` has weight 1 where the machine is idle and weight 2 where the next boundary takes no sample.
+// WP, PC and ST; `flags` has weight 1 where the machine is idle, or weight 2 where the next boundary takes no sample; with both the state
+// is not well formed.
 pub struct State {
     pub wp: u16,
     pub pc: u16,
@@ -53,10 +54,12 @@ pub enum Kind {
 }
 
 impl State {
-    // The bits of `flags`.
+    // The bits of `flags`, and the largest flags: no-sample alone.
     pub const IDLE: u32 = 0;
 
     pub const NO_SAMPLE: u32 = 1;
+
+    pub const FLAGS_LARGEST: u16 = 1 << State::NO_SAMPLE;
 
     // All fields 0.
     pub fn blank() -> Self
@@ -85,7 +88,7 @@ impl State {
         }
     }
 
-    // WP and PC even, flags at most 3, and the PSI's fields in order.
+    // WP and PC even, flags at most 2, and the PSI's fields in order.
     pub fn well_formed(self) -> bool
         ensures { λ r. ⌜ r ≡ Own.well-formed self ⌝ }
     {
@@ -99,7 +102,7 @@ impl State {
         if pc % 2 != 0 {
             return false;
         }
-        if 3 < flags {
+        if State::FLAGS_LARGEST < flags {
             return false;
         }
         psi.well_formed()

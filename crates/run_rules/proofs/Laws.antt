@@ -13,19 +13,8 @@ use Rattle.machine.specs.declared.Deed.the-variants.{Ordinary, Unassigned, Swit
 use Rattle.machine.specs.declared.Kind.{Kind}
 use Rattle.machine.specs.declared.Kind.the-variants.{Reset as was-reset, Load as was-load, Idle as was-idle, Level as was-level, Ran as ran}
 use Rattle.machine.specs.State.{Machine, well-formed}
-use Rattle.machine.specs.Step.{clocked, step}
+use Rattle.machine.specs.Step.{step}
 use Rattle.machine.specs.Run.{missed, at-once, one-more, runs, run-refusal}
-use Rattle.psi.proofs.Kept.{kept-formed}
-use Rattle.machine.proofs.Laws.{Form}
-
--- the clock keeps a state well formed
-pub clocked-form : (cycles : ℕ) (m : Machine) → Form (m .state) → Form (clocked cycles m .state)
-clocked-form cycles m f =
-    record {
-      even = record { wp = f .even .wp; pc = f .even .pc };
-      flags = f .flags;
-      psi = kept-formed .cycles cycles (f .psi);
-    }
 
 -- a step meets at most one unassigned word
 pub missed-at-most : (k : Kind) → missed k ≤ 1

@@ -1,4 +1,4 @@
--- The flag is cleared; then the idle bit decides, and the word is fetched and executed.
+-- The idle bit decides; then the flag is cleared, and the word is fetched and executed.
 use Rattle.machine.proofs.Bind.{perform-bind, perform-done, perform-registers}
 use Rattle.machine.specs.Step as Step
 use borrow.Author.Needs.{needs}
@@ -7,21 +7,21 @@ use Rattle.boundary.proofs.proceed.Tie as tie
 
 returns : tie.Need-returns
 unfolding Step.proceed
-returns c = rw (perform-bind, perform-registers, perform-bind, ← c .before .before .before .put .ensures, c .before .before .set-flags .ensures _ _, ← c .before .bit .ensures, c .if1 .taken, perform-done)
+returns c = rw (perform-bind, perform-registers, ← c .before .bit .ensures, c .if1 .taken, perform-done)
 
 returns-2 : tie.Need-returns-2
 unfolding Step.proceed
-returns-2 c = rw (perform-bind, perform-registers, perform-bind, ← c .before .before .before .before .before .before .before .before .before .before .before .put .ensures, c .before .before .before .before .before .before .before .before .before .before .set-flags .ensures _ _, ← c .before .before .before .before .before .before .before .before .before .bit .ensures, c .before .before .before .before .before .before .before .before .if1 .left, perform-bind, c .before .before .before .before .before .before .fetch .ensures _, perform-bind, c .before .before .before .perform .ensures, perform-done)
+returns-2 c = rw (perform-bind, perform-registers, ← c .before .before .before .before .before .before .before .before .before .before .before .bit .ensures, c .before .before .before .before .before .before .before .before .before .before .if1 .left, perform-bind, ← c .before .before .before .before .before .before .before .before .before .put .ensures, c .before .before .before .before .before .before .before .before .set-flags .ensures _ _, perform-bind, c .before .before .before .before .before .before .fetch .ensures _, perform-bind, c .before .before .before .perform .ensures, perform-done)
 
 pub proceed-spec : {M : Type 1} → statement M
 proceed-spec =
     tie.close
     (tie.spec
-    (λ c κs. search needs)
-    (λ c κs. search needs)
     (λ c. search needs)
     (λ c κs. search needs)
     returns
+    (λ c κs. search needs)
+    (λ c κs. search needs)
     (λ c κs. search needs)
     (λ c κs. search needs)
     (λ c. search needs)
