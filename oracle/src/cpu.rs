@@ -84,7 +84,7 @@ pub struct Machine<'m> {
 }
 
 impl<'m> Machine<'m> {
-    /// The machine of a well-formed state.
+    /// The machine of a well-formed state. No step leaves both flags set.
     pub fn new(memory: &'m mut Memory, state: State) -> Machine<'m> {
         Machine {
             wp: state.wp,
@@ -142,10 +142,10 @@ impl<'m> Machine<'m> {
             }
         }
 
-        self.no_sample = false;
         if self.idle {
             return Step::Idle;
         }
+        self.no_sample = false;
         let word = self.fetch();
         self.execute_fetched(word)
     }

@@ -166,7 +166,7 @@ fn psi(seeds: &mut Seeds) -> Psi {
     }
 }
 
-/// A well-formed state with these flags; some have PC in the workspace.
+/// A state with these flags and all else well formed; some have PC in the workspace.
 fn state(seeds: &mut Seeds, flags: u16) -> State {
     let wp = address(seeds);
     let near = wp.wrapping_add(2 * seeds.below(32));

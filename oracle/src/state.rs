@@ -5,6 +5,8 @@ use crate::psi::Psi;
 /// Flag weights of [`State::flags`].
 pub const FLAG_IDLE: u16 = 1;
 pub const FLAG_NO_SAMPLE: u16 = 2;
+/// The largest flags of a well-formed state, which has at most one of the two.
+const FLAGS_MAX: u16 = FLAG_NO_SAMPLE;
 
 /// The machine's state. Every field is the 16-bit word that the image has for
 /// it, so a state can hold any words, well formed or not.
@@ -29,7 +31,7 @@ impl State {
     };
 
     pub fn is_well_formed(&self) -> bool {
-        self.wp % 2 == 0 && self.pc % 2 == 0 && self.flags <= 3 && self.psi.is_well_formed()
+        self.wp % 2 == 0 && self.pc % 2 == 0 && self.flags <= FLAGS_MAX && self.psi.is_well_formed()
     }
 }
 

@@ -18,7 +18,7 @@ fn sample() -> (State, Vec<u8>) {
         wp: 0x8302,
         pc: 0xFFFE,
         st: 0xA5C3,
-        flags: 3,
+        flags: 2,
         psi: Psi {
             control_and_masks: 0x1235,
             directions: 0xF00F,
@@ -81,7 +81,7 @@ fn layout() {
         assert_eq!(sum % 65536, 65535);
     }
     let fields = [
-        0x9901, 1, 0x8302, 0xFFFE, 0xA5C3, 3, 0x1235, 0xF00F, 0x8001, 16383, 300, 301, 63, 1,
+        0x9901, 1, 0x8302, 0xFFFE, 0xA5C3, 2, 0x1235, 0xF00F, 0x8001, 16383, 300, 301, 63, 1,
     ];
     for (i, field) in fields.iter().enumerate() {
         assert_eq!(word(&image, 2 + 2 * i), *field);
@@ -105,6 +105,13 @@ fn round_trips() {
     let mut again = vec![0; IMAGE_SIZE];
     write_image(state, &read, &mut again);
     assert_eq!(again, image);
+    // All flags that a state may have.
+    for flags in 0..=2 {
+        let state = State { flags, ..state };
+        let mut image = vec![0xEE; IMAGE_SIZE];
+        assert_eq!(write_image(state, &memory, &mut image), refused(0, 0, state));
+        assert_eq!(read_image(&image, &mut read), refused(0, 0, state));
+    }
     // The blank state and a blank memory.
     let mut image = vec![0xEE; IMAGE_SIZE];
     write_image(State::BLANK, &vec![0; MEMORY_SIZE], &mut image);
@@ -218,6 +225,7 @@ fn refusals_of_format_and_fields() {
     for (field, value) in [
         (2, 0x8303),
         (3, 0xFFFF),
+        (5, 3),
         (5, 4),
         (6, 0x1234), // control 0, but the read register is not the decrementer
         (7, 0x700F), // latch 15 on an input
@@ -255,4 +263,64 @@ fn refusals_of_format_and_fields() {
     put(&mut image, 2 + 2 * 4, 0xFFFF);
     mend(&mut image, 0);
     assert_eq!(read_image(&image, &mut read).state.st, 0xFFFF);
+}
+
+#[test]
+fn writing_with_both_flags() {
+    let (good, memory) = sample();
+    for good in [good, State::BLANK] {
+        let state = State { flags: 3, ..good };
+        let mut image = vec![0xEE; IMAGE_SIZE];
+        let mut short = vec![0xEE; IMAGE_SIZE - 1];
+        assert_eq!(write_image(state, &memory, &mut image), refused(2, 0, state));
+        // 1 and 5 come before.
+        assert_eq!(write_image(state, &memory[1..], &mut image), refused(1, 0, state));
+        assert_eq!(write_image(state, &memory[1..], &mut short), refused(1, 0, state));
+        assert_eq!(write_image(state, &memory, &mut short), refused(5, 0, state));
+        for untouched in [&image, &short] {
+            assert!(untouched.iter().all(|&byte| byte == 0xEE));
+        }
+    }
+}
+
+#[test]
+fn reading_with_both_flags() {
+    let mut image = sample_image();
+    put(&mut image, 2 + 2 * 5, 3);
+    expect(&image, 6, 0);
+    mend(&mut image, 0);
+    expect(&image, 9, 0);
+    // 1 and 5 come before.
+    let mut memory = vec![0x77; MEMORY_SIZE - 1];
+    assert_eq!(read_image(&image, &mut memory), refused(1, 0, State::BLANK));
+    assert!(memory.iter().all(|&byte| byte == 0x77));
+    expect(&image[..IMAGE_SIZE - 1], 5, 0);
+    // So do 6 and 7 of any block, and 8.
+    for block in 0..34 {
+        let mut worse = image.clone();
+        worse[512 * block + 100] ^= 1;
+        expect(&worse, 6, block as u16);
+        let mut worse = image.clone();
+        put(&mut worse, 512 * block, 77);
+        mend(&mut worse, block);
+        expect(&worse, 7, block as u16);
+    }
+    for (field, value) in [(0, 0x9902), (1, 2)] {
+        let mut worse = image.clone();
+        put(&mut worse, 2 + 2 * field, value);
+        mend(&mut worse, 0);
+        expect(&worse, 8, 0);
+    }
+    // The same image with either flag is read.
+    for flags in [1, 2] {
+        put(&mut image, 2 + 2 * 5, flags);
+        mend(&mut image, 0);
+        let mut read = vec![0; MEMORY_SIZE];
+        let (state, memory) = sample();
+        assert_eq!(
+            read_image(&image, &mut read),
+            refused(0, 0, State { flags, ..state })
+        );
+        assert_eq!(read, memory);
+    }
 }

@@ -199,6 +199,11 @@ fn refusals() {
     let check = u16::from_be_bytes([bad[510], bad[511]]).wrapping_sub(1);
     bad[510..512].copy_from_slice(&check.to_be_bytes());
     images.push((9, bad));
+    let mut bad = good.clone();
+    bad[2 + 2 * 5 + 1] = 3; // both flags
+    let check = u16::from_be_bytes([bad[510], bad[511]]).wrapping_sub(3);
+    bad[510..512].copy_from_slice(&check.to_be_bytes());
+    images.push((9, bad));
     for (number, bytes) in images {
         let image = folder.put("image", &bytes);
         let line = format!("answer {number} steps 0 unassigned 0 pc 0000 wp 0000 st 0000");

@@ -1,5 +1,7 @@
 //! Steps: what enters, what it stores, the flags; the run's stop and counts.
 mod common;
+use std::collections::BTreeSet;
+
 use common::*;
 use oracle::{power_up, run, Answer, Psi, State, Step, MEMORY_SIZE};
 
@@ -182,16 +184,76 @@ fn idle() {
         assert_eq!(b.kind(low(&[n])), kind);
         assert_eq!(b.state.flags, 2);
     }
-    // Idle together with no-sample: the flag is cleared, the machine stays idle.
-    let mut b = ready(0xFFFE, 0x000F);
-    b.state.flags = 3;
-    assert_eq!(b.kind(low(&[2])), Step::Idle);
-    assert_eq!(b.state.flags, 1);
-    assert_eq!(b.kind(low(&[2])), Step::Load);
-    let mut b = ready(0xFFFE, 0x000F);
-    b.state.flags = 3;
-    assert_eq!(b.kind(low(&[8])), Step::Reset);
-    assert_eq!(b.state.flags, 2);
+}
+
+#[test]
+fn idle_right_after_an_entry() {
+    // IDLE by itself, through X, and through eight X.
+    for links in [0, 1, 8] {
+        let mut b = ready(0xFFFE, 0x000F);
+        b.program(&[if links == 0 { 0x0340 } else { 0x0481 }]);
+        for n in 1..links {
+            b.set_r(n, 0x0481 + n);
+        }
+        b.set_r(links.max(1), 0x0340);
+        b.state.flags = 2;
+        // LOAD waits for one instruction, and is then let in at once.
+        assert_eq!(b.kind(low(&[2])), Step::Instruction);
+        assert_eq!((b.state.flags, b.state.pc), (1, PC + 2));
+        assert_eq!(b.kind(low(&[2])), Step::Load);
+        assert_eq!((b.state.flags, b.r(14)), (2, PC + 2));
+    }
+    // The same where the entry was made by a step.
+    for word in [0x0340, 0x0481] {
+        for (words, record, kind) in [
+            ([0x1000, 0x1000], low(&[1]), Step::Reset),
+            ([0x1000, 0x1000], low(&[2]), Step::Load),
+            ([0x1000, 0x1000], low(&[3]), Step::Level(1)),
+            ([0x0420, 0x0010], QUIET, Step::Instruction), // BLWP
+            ([0x2C20, 0x0800], QUIET, Step::Instruction), // XOP
+        ] {
+            let mut b = ready(0xFFFE, 0x000F);
+            b.program(&words);
+            b.put(0x0040, 0x0480);
+            b.put(0x0042, 0x0640);
+            assert_eq!(b.kind(record), kind);
+            assert_eq!(b.state.flags, 2);
+            b.program(&[word]);
+            b.set_r(1, 0x0340);
+            assert_eq!(b.kind(low(&[2])), Step::Instruction);
+            assert_eq!(b.state.flags, 1);
+            assert_eq!(b.kind(QUIET), Step::Idle);
+            assert_eq!(b.state.flags, 1);
+            assert_eq!(b.kind(low(&[2])), Step::Load);
+            assert_eq!(b.state.flags, 2);
+        }
+    }
+}
+
+#[test]
+fn flags_after_every_word() {
+    let mut b = Bench::new();
+    let start = b.state;
+    for word in 0..=0xFFFF {
+        // What X leads to is not known here.
+        if word & 0xFFC0 == 0x0480 {
+            continue;
+        }
+        let expected = match word {
+            0x0340..=0x035F => 1,
+            0x0400..=0x043F | 0x2C00..=0x2FFF => 2,
+            _ => 0,
+        };
+        for flags in [0, 2] {
+            for first in [word, 0x0481] {
+                b.state = State { flags, ..start };
+                b.program(&[first]);
+                b.set_r(1, word);
+                b.kind(QUIET);
+                assert_eq!(b.state.flags, expected, "{word:04X} by {first:04X}");
+            }
+        }
+    }
 }
 
 #[test]
@@ -259,6 +321,7 @@ pub fn ill_formed() -> Vec<State> {
     vec![
         State { wp: WP + 1, ..good },
         State { pc: PC + 1, ..good },
+        State { flags: 3, ..good },
         State { flags: 4, ..good },
         State { flags: 7, ..good },
         State {
@@ -324,7 +387,6 @@ fn refusals_of_the_run_in_order() {
         pc: PC,
         ..State::BLANK
     };
-    let bad = State { flags: 7, ..good };
     let refused = |number, state| Answer {
         number,
         block: 0,
@@ -333,14 +395,26 @@ fn refusals_of_the_run_in_order() {
         state,
     };
     // 1 before 2 before 3
-    for size in [0, 16383, 16385] {
-        let mut memory = vec![0x11; size];
-        assert_eq!(run(&mut memory, bad, &[], 1, 1), refused(1, bad));
-        assert_eq!(run(&mut memory, good, &[], 0, 1), refused(1, good));
-        assert_eq!(memory, vec![0x11; size]);
-    }
     let mut memory = vec![0x11; MEMORY_SIZE];
-    assert_eq!(run(&mut memory, bad, &[], 1, 1), refused(2, bad));
+    for flags in [3, 7] {
+        let bad = State { flags, ..good };
+        for size in [0, 16383, 16385] {
+            let mut memory = vec![0x11; size];
+            assert_eq!(run(&mut memory, bad, &[], 1, 1), refused(1, bad));
+            assert_eq!(run(&mut memory, bad, &[QUIET], 1, 1), refused(1, bad));
+            assert_eq!(run(&mut memory, good, &[], 0, 1), refused(1, good));
+            assert_eq!(memory, vec![0x11; size]);
+        }
+        assert_eq!(run(&mut memory, bad, &[], 1, 1), refused(2, bad));
+        assert_eq!(run(&mut memory, bad, &[QUIET; 5], 6, 1), refused(2, bad));
+        // 2 even where no step would be done
+        assert_eq!(run(&mut memory, bad, &[QUIET; 5], 0, 1), refused(2, bad));
+        assert_eq!(run(&mut memory, bad, &[QUIET; 5], 5, PC), refused(2, bad));
+        // 2 even where the first step would be a reset
+        let mut bad = bad;
+        bad.psi.control_and_masks = 0xFFFE;
+        assert_eq!(run(&mut memory, bad, &[0; 5], 5, 1), refused(2, bad));
+    }
     for state in ill_formed() {
         assert!(!state.is_well_formed());
         assert_eq!(run(&mut memory, state, &[QUIET], 1, 1), refused(2, state));
@@ -372,10 +446,12 @@ fn refusals_of_the_run_in_order() {
         wp: 0xFFFE,
         pc: 0xFFFE,
         st: 0xFFFF,
-        flags: 3,
+        flags: 2,
         psi,
     };
     assert_eq!(run(&mut memory, extreme, &[], 0, 1), refused(0, extreme));
+    let beyond = State { flags: 3, ..extreme };
+    assert_eq!(run(&mut memory, beyond, &[], 0, 1), refused(2, beyond));
 }
 
 #[test]
@@ -386,7 +462,7 @@ fn stop_address() {
     assert_eq!((answer.number, answer.steps, answer.unassigned), (0, 2, 1));
     assert_eq!((answer.state.pc, answer.state.psi.phase), (PC + 4, 6));
     // At once: nothing is used up, not even for an idle machine or a pending reset.
-    for flags in 0..=3 {
+    for flags in 0..=2 {
         let state = State {
             flags,
             psi: Psi {
@@ -446,7 +522,7 @@ fn random_machine(random: &mut Random) -> (Vec<u8>, State, Vec<u32>) {
         wp: random.word() & !1,
         pc: random.word() & !1,
         st: random.word(),
-        flags: random.below(4) as u16,
+        flags: random.below(3) as u16,
         psi: Psi {
             control_and_masks: control,
             directions,
@@ -518,4 +594,109 @@ fn states_stay_well_formed() {
             b.kind(record); // asserts it
         }
     }
+}
+
+/// A random machine whose memory has many words that touch the flags, and whose
+/// masks and pins let some requests in.
+fn lively_machine(random: &mut Random) -> (Bench, Vec<u32>) {
+    let (memory, state, mut records) = random_machine(random);
+    let mut b = Bench { memory, state };
+    if random.below(4) != 0 {
+        b.state.psi.directions = 0;
+        b.state.psi.latches = 0;
+    }
+    for i in 0..MEMORY_SIZE as u16 / 2 {
+        let low = random.word();
+        match random.below(24) {
+            0 => b.put(2 * i, 0x0340 | low & 0x1F),  // IDLE
+            1 => b.put(2 * i, 0x0480 | low & 0x3F),  // X
+            2 => b.put(2 * i, 0x0400 | low & 0x3F),  // BLWP
+            3 => b.put(2 * i, 0x2C00 | low & 0x3FF), // XOP
+            4 => b.put(2 * i, 0x0380 | low & 0x1F),  // RTWP
+            _ => {}
+        }
+    }
+    for record in &mut records {
+        if random.below(2) == 0 {
+            *record |= QUIET;
+        }
+    }
+    (b, records)
+}
+
+fn name(kind: Step) -> &'static str {
+    match kind {
+        Step::Reset => "reset",
+        Step::Load => "load",
+        Step::Level(_) => "level",
+        Step::Instruction => "instruction",
+        Step::Unassigned => "unassigned",
+        Step::Idle => "idle",
+    }
+}
+
+/// Flags before a step, what it was, and flags after it.
+type Change = (u16, &'static str, u16);
+
+/// All that can come of a step.
+const CHANGES: [Change; 16] = [
+    (0, "instruction", 0),
+    (0, "instruction", 1),
+    (0, "instruction", 2),
+    (0, "level", 2),
+    (0, "load", 2),
+    (0, "reset", 2),
+    (0, "unassigned", 0),
+    (1, "idle", 1),
+    (1, "level", 2),
+    (1, "load", 2),
+    (1, "reset", 2),
+    (2, "instruction", 0),
+    (2, "instruction", 1),
+    (2, "instruction", 2),
+    (2, "reset", 2),
+    (2, "unassigned", 0),
+];
+
+/// Does the steps one by one, and notes what each changed.
+fn follow(mut b: Bench, records: &[u32], met: &mut BTreeSet<Change>) {
+    for &record in records {
+        let before = b.state.flags;
+        let kind = b.kind(record);
+        assert!(b.state.flags <= 2);
+        met.insert((before, name(kind), b.state.flags));
+    }
+}
+
+#[test]
+fn no_step_sets_both_flags() {
+    let mut random = Random(12);
+    let mut met = BTreeSet::new();
+    for flags in 0..=2 {
+        for _ in 0..2000 {
+            let (mut b, records) = lively_machine(&mut random);
+            b.state.flags = flags;
+            follow(b, &records, &mut met);
+        }
+    }
+    assert_eq!(met, BTreeSet::from(CHANGES));
+}
+
+#[test]
+fn no_step_from_power_up_sets_both_flags() {
+    let mut random = Random(1212);
+    let mut met = BTreeSet::new();
+    for _ in 0..4000 {
+        let (mut b, records) = lively_machine(&mut random);
+        if random.below(2) == 0 {
+            // CLR R12; LI R1; LDCR R1,0; LIMI 15: some requests are let in.
+            b.state.pc = b.word(2);
+            b.program(&[0x04CC, 0x0201, random.word() & !1, 0x3001, 0x0300, 15]);
+        }
+        let answer = power_up(&mut b.memory);
+        assert_eq!((answer.number, answer.state.flags), (0, 2));
+        b.state = answer.state;
+        follow(b, &records, &mut met);
+    }
+    assert_eq!(met, BTreeSet::from(CHANGES));
 }

@@ -82,7 +82,7 @@ pub fn psi(seed: &mut u32) -> Psi {
     }
 }
 
-// A well-formed state with these flags; some have PC in the workspace.
+// A state with these flags, well formed but for them; some have PC in the workspace.
 pub fn state(seed: &mut u32, flags: u16) -> State {
     let wp = address(seed);
     let near = std::num::wrapping_add_u16(wp, below(seed, 32) * 2);

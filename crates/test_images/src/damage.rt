@@ -101,7 +101,7 @@ fn block_at(seed: &mut u32, place: u16) -> usize
 }
 
 // Puts a state's words into block 0.
-fn put_state(image: &mut [u8], state: State)
+pub fn put_state(image: &mut [u8], state: State)
     requires { ⌜ length (now image) ≡ Image.image-size ⌝ }
 {
     let psi = state.psi;

@@ -22,6 +22,9 @@ const MEMORY: u16 = memory::SIZE as u16;
 
 const IMAGE: u16 = image_blocks::IMAGE_SIZE as u16;
 
+// Idle and no-sample together: not well formed.
+const BOTH_FLAGS: u16 = (1 << State::IDLE) + (1 << State::NO_SAMPLE);
+
 // What reading the image answered, and the sums of all answers of the case, of the memory and of the image.
 struct Outcome {
     number: u16,
@@ -89,6 +92,23 @@ fn write(bytes: &[u8], image: &mut [u8], seed: &mut u32, state: State) -> u32
     states::mix_state(seeds::mix(sum, answer.number as u32), after)
 }
 
+// Where the state has both flags and no image of it was written: the sum with what is left in the image, which becomes one without
+// flags, and then the state's words are put into it.
+fn put_unwritten(bytes: &[u8], image: &mut [u8], state: State, sum: u32) -> u32
+    requires { ⌜ Installed (now bytes) ⌝ }
+    requires { ⌜ length (now image) ≡ Image.image-size ⌝ }
+{
+    if state.flags != BOTH_FLAGS {
+        return sum;
+    }
+    let left = seeds::mix_bytes(sum, image);
+    let mut plain = state;
+    plain.flags = 0;
+    image::write_image(plain, bytes, image);
+    damage::put_state(image, state);
+    left
+}
+
 // Makes the image of a state and of any bytes, and damages it.
 fn prepare(bytes: &mut [u8], image: &mut [u8], seed: &mut u32, kind: u16, place: u16) -> u32
     requires { ⌜ Installed (now bytes) ⌝ }
@@ -97,7 +117,8 @@ fn prepare(bytes: &mut [u8], image: &mut [u8], seed: &mut u32, kind: u16, place:
     seeds::fill(bytes, seed);
     let flags = below(seed, 4);
     let state = states::state(seed, flags);
-    let sum = write(bytes, image, seed, state);
+    let written = write(bytes, image, seed, state);
+    let sum = put_unwritten(bytes, image, state, written);
     damage::damage(image, seed, state, kind, place);
     sum
 }

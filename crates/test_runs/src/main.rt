@@ -143,7 +143,7 @@ fn followed(course: Course, answer: RunAnswer) -> Course {
     next
 }
 
-// The state that the calls on a memory start from: after power up, or any.
+// The state that the calls on a memory start from: after power up, or any. With both flags every call is refused.
 fn start(bytes: &mut [u8], seed: &mut u32) -> State
     requires { ⌜ Installed (now bytes) ⌝ }
 {

@@ -57,15 +57,20 @@ fn among(seeds: &mut Seeds, first: usize, count: u16) -> usize {
     first + usize::from(seeds.below(count))
 }
 
+/// Puts a state into block 0, well formed or not.
+pub fn put_state(image: &mut [u8], state: &State) {
+    for (n, word) in words_of(state).enumerate() {
+        put(image, 0, 3 + n, word);
+    }
+    mend(image, 0);
+}
+
 /// Damage of a kind, in a block of the class where the kind leaves a choice.
 /// The last kind is none, and so are any further.
 pub fn damage(image: &mut [u8], seeds: &mut Seeds, state: State, kind: u16, place: u16) {
     if kind < WAYS {
         let bad = spoiled(seeds, state, kind);
-        for (n, word) in words_of(&bad).enumerate() {
-            put(image, 0, 3 + n, word);
-        }
-        mend(image, 0);
+        put_state(image, &bad);
         return;
     }
     if kind >= KINDS - 1 {

@@ -3,9 +3,10 @@
 
 use std::fmt::Write;
 
-use super::damage::{damage, KINDS, PLACES};
+use super::damage::{damage, put_state, KINDS, PLACES};
 use super::{fill, spoiled, state, sum_of, Sum, WAYS};
 use crate::seeds::Seeds;
+use crate::state::{FLAG_IDLE, FLAG_NO_SAMPLE};
 use crate::{read_image, write_image, Answer, State, IMAGE_SIZE, MEMORY_SIZE};
 
 /// Lines of the second part of the output.
@@ -48,7 +49,9 @@ struct Lent {
 }
 
 impl Lent {
-    /// Writes an image, and damages it. The sum is of the answers.
+    /// Writes an image, and damages it. The sum is of the answers. A state may
+    /// have both flags: its image then has them too, and the sum is also of the
+    /// image as the refused writes left it.
     fn write(&mut self, seeds: &mut Seeds, kind: u16, place: u16) -> Sum {
         fill(&mut self.memory, seeds);
         let flags = seeds.below(4);
@@ -62,9 +65,17 @@ impl Lent {
         sum.mix_state(&answer.state);
 
         let answer = write_image(state, &self.memory, &mut self.image);
-        damage(&mut self.image, seeds, state, kind, place);
         sum.mix(u32::from(answer.number));
         sum.mix_state(&answer.state);
+
+        if state.flags == FLAG_IDLE | FLAG_NO_SAMPLE {
+            // Both writes were refused: the image is still what the case before left.
+            sum.mix_bytes(&self.image);
+            // The case is to have an image of its own all the same.
+            write_image(State { flags: 0, ..state }, &self.memory, &mut self.image);
+            put_state(&mut self.image, &state);
+        }
+        damage(&mut self.image, seeds, state, kind, place);
         sum
     }
 

@@ -87,6 +87,7 @@ impl Course {
         } else if seeds.once_in(2) {
             state(seeds, 0)
         } else {
+            // with both flags all calls are refused
             let flags = seeds.below(4);
             state(seeds, flags)
         };
