@@ -13,7 +13,7 @@ module tms_replay
   integer(c_size_t), parameter :: tms_memory_size = 16384, tms_image_size = 17408, tms_line_size = 48
   integer, parameter :: tms_state_words = 12, tms_counts = 2, tms_line_answer = 2
 
-  ! The words of a state, each a number from 0 to 65535.
+  ! The words of a state, each a number from 0 to 65535; flags are at most 2 (1: idle, 2: the next boundary takes no sample).
   integer, parameter :: tms_wp = 1, tms_pc = 2, tms_st = 3, tms_flags = 4, tms_mask = 5, tms_direction = 6, &
       tms_latch = 7, tms_load = 8, tms_decrementer = 9, tms_reading = 10, tms_phase = 11, tms_pending = 12
 

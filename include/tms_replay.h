@@ -41,7 +41,7 @@ enum {
   TMS_WP,          /* workspace pointer */
   TMS_PC,          /* program counter */
   TMS_ST,          /* status */
-  TMS_FLAGS,       /* 1: idle, 2: the next boundary takes no sample */
+  TMS_FLAGS,       /* 1: idle, 2: the next boundary takes no sample; never both */
   TMS_MASK,        /* 1: control bit, 2^n: mask n */
   TMS_DIRECTION,   /* 2^n: port n is an output */
   TMS_LATCH,       /* 2^n: the level of output n */

@@ -63,8 +63,11 @@ int main(void) {
   printf("wrote %u read %u block %" PRIu32 "\n", wrote, read, block);
   line(run(2));
 
-  /* Refusals: too few records; a number that does not fit its word, which stays. */
+  /* Refusals: too few records; both flags; a number that does not fit its word, which stays. */
   line(run(9));
+  state[TMS_FLAGS] = 3;
+  line(run(1));
+  state[TMS_FLAGS] = 0;
   state[TMS_ST] = 65536;
   line(run(1));
   wrote = tms_write_image(state, memory, sizeof memory, image, sizeof image);

@@ -48,8 +48,11 @@ program powered
   call read_image(tms_image_size)
   call run(2)
 
-  ! Refusals: too few records; a number that does not fit its word, which stays; a damaged block; a short image.
+  ! Refusals: too few records; both flags; a number that does not fit its word, which stays; a damaged block; a short image.
   call run(9)
+  state(tms_flags) = 3
+  call run(1)
+  state(tms_flags) = 0
   state(tms_st) = 65536
   call run(1)
   print '(12(i0, 1x))', state
