@@ -1,4 +1,4 @@
--- A word is executed with both flags cleared; then the context switch sets no-sample alone, IDLE sets idle alone, and all else leaves
+-- A word is executed with both flags cleared; then the context switch sets only no-sample, IDLE only idle, and nothing else loads
 -- the flags, at once or after X's operands. An entry sets no-sample and clears idle. So flags of at most 2 stay so.
 use Prim.Native.Nat.{ℕ, zero, suc, _/_, _%_, _≤_}
 use mathlib.Core.Path.{_≡_, refl, _∙_}
@@ -50,7 +50,7 @@ ends : {A B : Type 0} (J : A → ℕ → Type 0) (K : B → ℕ → Type 0) (g :
 unfolding Leads perform
 ends J K g turn p h v m e = rw (perform-bind v p (λ a. done (g a)) m) (turn _ _ (h v m e))
 
--- no-sample alone
+-- only no-sample is set
 abbrev Unsampled : {A : Type 0} → A → ℕ → Type 0
 Unsampled a f = f ≡ 2
 

@@ -141,16 +141,7 @@ flags-left v (sense b k) m h = flags-left v (k (Cru.sensed (m .state .psi) v b .
 flags-left v (drive b x k) m h = flags-left v k (after-drive b x m) h
 
 -- the forms, one by one
-wp-flagless : (x : ℕ) → Flagless (set to-wp x)
-wp-flagless x = set-loads Not-flags to-wp x tt
-
-pc-flagless : (x : ℕ) → Flagless (set to-pc x)
-pc-flagless x = set-loads Not-flags to-pc x tt
-
-st-flagless : (x : ℕ) → Flagless (set to-st x)
-st-flagless x = set-loads Not-flags to-st x tt
-
-ruleset parts = (accesses, wp-flagless, pc-flagless, st-flagless, register-loads, set-register-loads, operand-loads)
+ruleset parts = (accesses, set-loads, register-loads, set-register-loads, operand-loads)
 
 set-status-flagless : (f : ℕ → ℕ) → Flagless (G.set-status f)
 unfolding G.set-status

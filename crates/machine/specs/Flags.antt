@@ -10,15 +10,15 @@ use Rattle.machine.specs.declared.Kind.the-variants.{Reset as was-reset,
 use Rattle.machine.specs.State.{Machine, idle, no-sample, well-formed}
 use Rattle.machine.specs.Step.{step}
 
--- after an executed word, also one that X executes: BLWP and XOP leave no-sample alone, RTWP and an unassigned word nothing, any other
--- instruction at most idle, which IDLE sets
+-- which flags are set after an executed word, also one that X executes: after BLWP and XOP only no-sample, after RTWP and an unassigned
+-- word none, after any other instruction at most idle, which IDLE sets
 unfoldable pub Flags-by-word : Deed → ℕ → Type 0
 Flags-by-word Ordinary f = f ≤ 2 ^ idle
 Flags-by-word Unassigned f = f ≡ 0
 Flags-by-word Switched f = f ≡ 2 ^ no-sample
 Flags-by-word Returned f = f ≡ 0
 
--- after a step from flags e: reset, LOAD and interrupt set no-sample alone; an idle machine stays as it is
+-- which are set after a step that began with flags e: after reset, LOAD and an interrupt only no-sample; an idle step changes none
 unfoldable pub Flags-by-step : Kind → ℕ → ℕ → Type 0
 Flags-by-step was-reset e f = f ≡ 2 ^ no-sample
 Flags-by-step was-load e f = f ≡ 2 ^ no-sample

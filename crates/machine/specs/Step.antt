@@ -42,7 +42,7 @@ enter vector f = do
   r ← registers
   set to-flags (put idle false (r .flags))
 
--- A step without an entry: an idle machine does nothing; any other clears no-sample and executes an instruction.
+-- A step without an entry (Q-12): an idle machine does nothing; any other clears no-sample and executes an instruction.
 unfoldable pub proceed : Micro Kind
 proceed = do
   r ← registers
