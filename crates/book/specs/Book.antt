@@ -9,9 +9,7 @@ use Rattle.psi.specs.Pins.{parted}
 use Rattle.machine.specs.declared.Deed.the-variants.{Ordinary, Unassigned, Switched, Returned}
 use Rattle.machine.specs.State.{Machine, at}
 use Rattle.machine.specs.Perform.{Access, accesses, fetches, written}
-use Rattle.machine.specs.declared.Kind.{Kind}
-use Rattle.machine.specs.declared.Kind.the-variants.{Reset as was-reset, Load as was-load, Idle as was-idle, Level as was-level, Ran as ran}
-use Rattle.machine.specs.Step.{clocked, stepping, step}
+use Rattle.machine.specs.Step.{Kind, was-reset, was-load, was-idle, was-level, ran, clocked, stepping, step}
 use Rattle.machine.specs.Run.{run-refusal, run}
 
 -- a note: the new WP, and the WP, PC and ST that are noted

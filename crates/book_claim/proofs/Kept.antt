@@ -12,11 +12,9 @@ use Rattle.psi.specs.declared.Record.{Record}
 use Rattle.psi.specs.Pins.{parted}
 use Rattle.machine.specs.declared.Deed.the-variants.{Ordinary, Unassigned, Switched, Returned}
 use Rattle.machine.specs.State.{Machine}
-use Rattle.machine.specs.Perform.{fetches, written, even}
+use Rattle.machine.specs.Perform.{fetches, written}
 use Rattle.machine.specs.Operands.{register-at}
-use Rattle.machine.specs.declared.Kind.{Kind}
-use Rattle.machine.specs.declared.Kind.the-variants.{Reset as was-reset, Load as was-load, Idle as was-idle, Level as was-level, Ran as ran}
-use Rattle.machine.specs.Step.{clocked, stepping, step}
+use Rattle.machine.specs.Step.{Kind, was-reset, was-load, was-idle, was-level, ran, clocked, stepping, step}
 use Rattle.machine.proofs.Laws.{keeps-the-rest}
 use Rattle.book.specs.Book.{Note, Book, Event, opened, returned, cleared, other, turn, note, step-accesses, event-of, event, moment}
 use Rattle.book_claim.specs.Claim.{save-places, Each, Avoided, In-workspace, Respected, Stands, Restored, Given-back, Kept}

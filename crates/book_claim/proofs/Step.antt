@@ -13,11 +13,9 @@ use Rattle.machine.specs.Micro.{Micro, done, to-flags, _>>=_, registers, set, f
 use Rattle.machine.specs.Perform.{perform, accesses, fetches}
 use Rattle.machine.specs.Groups.{masked}
 use Rattle.machine.specs.Execute.{execute, allowance}
-use Rattle.machine.specs.declared.Kind.{Kind}
-use Rattle.machine.specs.declared.Kind.the-variants.{Reset as was-reset, Load as was-load, Idle as was-idle, Level as was-level, Ran as ran}
 use Rattle.machine.specs.declared.Signal.{Signal}
 use Rattle.machine.specs.declared.Signal.the-variants.{Reset as reset, Load as load, Nothing as none, Level as level}
-use Rattle.machine.specs.Step.{signal, admitted, enter, proceed, boundary, clocked, stepping, step}
+use Rattle.machine.specs.Step.{Kind, was-reset, was-load, was-idle, was-level, ran, signal, admitted, enter, proceed, boundary, clocked, stepping, step}
 use Rattle.machine.proofs.Laws.{Form}
 use Rattle.machine.proofs.Flags.{step-form}
 use Rattle.machine.proofs.Loads.{registers-loads, set-loads, fetched-loads}

@@ -18,8 +18,6 @@ use Rattle.isa.specs.declared.Instruction.the-variants.{Dual, Register, Xop, Tr
 use Rattle.isa.specs.Isa.{decoded}
 use Rattle.machine.specs.declared.Deed.{Deed}
 use Rattle.machine.specs.declared.Deed.the-variants as deed
-use Rattle.machine.specs.declared.Kind.{Kind}
-use Rattle.machine.specs.declared.Kind.the-variants.{Reset as was-reset, Load as was-load, Idle as was-idle, Level as was-level, Ran as ran}
 use Rattle.machine.specs.declared.Signal.{Signal}
 use Rattle.machine.specs.declared.Signal.the-variants.{Reset as reset, Load as load-line, Level as level, Nothing as none}
 use Rattle.machine.specs.State.{Machine, idle}
@@ -28,7 +26,7 @@ use Rattle.machine.specs.Perform.{perform}
 use Rattle.machine.specs.Operands.{set-register, operand}
 use Rattle.machine.specs.Groups as G
 use Rattle.machine.specs.Execute.{command-deed, instruction, again, execute, allowance}
-use Rattle.machine.specs.Step.{vector, entry-status, enter, proceed, boundary, clocked, stepping, step}
+use Rattle.machine.specs.Step.{Kind, was-reset, was-load, was-idle, was-level, ran, vector, entry-status, enter, proceed, boundary, clocked, stepping, step}
 use Rattle.machine.specs.Flags.{Flags-by-word, Flags-by-step, Steps-tell-the-flags, Keeps-well-formed}
 use Rattle.machine.proofs.Bind.{perform-bind, perform-done}
 use Rattle.machine.proofs.Laws.{keeps-even, keeps-the-psi-formed, Form, form, formed}

@@ -1,4 +1,5 @@
 pub mod Marked
+pub mod Told
 pub mod Bind
 pub mod Laws
 pub mod Loads

@@ -11,6 +11,7 @@ use Rattle.psi.specs.Clock.{advanced}
 use Rattle.psi.specs.Pins.{code}
 use Rattle.machine.specs.declared.State.{State}
 use Rattle.machine.specs.declared.RunAnswer.{RunAnswer}
+use Rattle.machine.specs.Answer.{number, value}
 use Rattle.machine.specs.Run.{RunResult, run}
 use Rattle.machine.specs.Rules as Rules
 
@@ -59,7 +60,9 @@ same-answer a b =
     && (eqb (a .state .pc) (b .state .pc)
     && (eqb (a .state .st) (b .state .st)
     && (eqb (a .state .flags) (b .state .flags)
-    && same-psi (a .state .psi) (b .state .psi)))))))
+    && (same-psi (a .state .psi) (b .state .psi)
+    && (eqb (number (a .last)) (number (b .last))
+    && eqb (value (a .last)) (value (b .last))))))))))
 
 -- two memories byte by byte
 unfoldable pub same-bytes : List ℕ → List ℕ → Bool

@@ -5,10 +5,8 @@ use mathlib.Core.Bool.{true}
 use Rattle.bits.specs.Bits.{bit}
 use Rattle.machine.specs.declared.Deed.{Deed}
 use Rattle.machine.specs.declared.Deed.the-variants.{Ordinary, Unassigned, Switched, Returned}
-use Rattle.machine.specs.declared.Kind.{Kind}
-use Rattle.machine.specs.declared.Kind.the-variants.{Reset as was-reset, Load as was-load, Idle as was-idle, Level as was-level, Ran as ran}
 use Rattle.machine.specs.State.{Machine, idle, no-sample, well-formed}
-use Rattle.machine.specs.Step.{step}
+use Rattle.machine.specs.Step.{Kind, was-reset, was-load, was-idle, was-level, ran, step}
 
 -- which flags are set after an executed word, also one that X executes: after BLWP and XOP only no-sample, after RTWP and an unassigned
 -- word none, after any other instruction at most idle, which IDLE sets

@@ -5,6 +5,7 @@ pub mod Operands
 pub mod Groups
 pub mod Execute
 pub mod Step
+pub mod Answer
 pub mod Run
 pub mod Laws
 pub mod Flags
@@ -12,3 +13,4 @@ pub mod Order
 pub mod Rules
 pub mod Cases
 pub mod Marked
+pub mod Told

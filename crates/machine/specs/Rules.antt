@@ -20,6 +20,7 @@ use Rattle.machine.specs.Operands as Operands
 use Rattle.machine.specs.Groups as Groups
 use Rattle.machine.specs.Execute as Execute
 use Rattle.machine.specs.Step as Step
+use Rattle.machine.specs.Answer as Answer
 use Rattle.machine.specs.Run as Run
 
 unfoldable pub bits : Unit {0}
@@ -123,7 +124,7 @@ unfolding Step.signal Step.admitted Step.enter Step.proceed Step.boundary Step.s
 steps = tt
 
 unfoldable pub runs : Unit {0}
-unfolding Formed.well-formed State.well-formed Run.missed Run.runs Run.run-refusal Run.run
+unfolding Formed.well-formed State.well-formed Answer.told-word Answer.told Answer.as-told Answer.answer Answer.missed Answer.latest Answer.number Answer.value Run.runs Run.run-refusal Run.run
 runs = tt
 
 unfoldable pub psi : Unit {0}

@@ -1,46 +1,42 @@
 -- A run of steps, power up, and when the two calls refuse.
 use Prim.Native.Nat.{ℕ, zero, suc, _+_}
 use mathlib.Core.Path.{_≡_}
-use mathlib.Core.Bool.{Bool, true, false, not}
+use mathlib.Core.Bool.{true, false, not}
 use mathlib.Core.List.{List, [], _∷_}
 use lib.ListN.{length}
 use lib.Dec.{eqb, ltb}
 use Rattle.bits.specs.Bits.{if_then_else_}
 use Rattle.memory.specs.Memory.{size}
 use Rattle.machine.specs.declared.State.{State}
-use Rattle.machine.specs.declared.Deed.{Deed}
-use Rattle.machine.specs.declared.Deed.the-variants.{Ordinary, Unassigned, Switched, Returned}
 use Rattle.machine.specs.declared.RunAnswer.{RunAnswer}
 use Rattle.machine.specs.declared.StateAnswer.{StateAnswer}
 use Rattle.machine.specs.State.{Machine, blank, well-formed}
-use Rattle.machine.specs.Perform.{Performed, perform}
-use Rattle.machine.specs.declared.Kind.{Kind}
-use Rattle.machine.specs.declared.Kind.the-variants.{Reset as was-reset, Load as was-load, Idle as was-idle, Level as was-level, Ran as ran}
+use Rattle.machine.specs.Perform.{perform}
+use Rattle.machine.specs.declared.StepAnswer.{StepAnswer}
+use Rattle.machine.specs.declared.StepAnswer.the-variants.{Nothing}
 use Rattle.machine.specs.declared.Signal.the-variants.{Reset as reset}
 use Rattle.machine.specs.Step.{step, boundary}
+use Rattle.machine.specs.Answer.{answer, missed, latest}
 
--- whether a step met an unassigned word, as a number
-unfoldable pub missed : Kind → ℕ
-missed was-reset = 0
-missed was-load = 0
-missed was-idle = 0
-missed (was-level k) = 0
-missed (ran Ordinary) = 0
-missed (ran Unassigned) = 1
-missed (ran Switched) = 0
-missed (ran Returned) = 0
-
--- a machine, the steps done and how many of them met an unassigned word
+-- a machine, the steps done, how many of them met an unassigned word, and the answer of the last (Q-6)
 pub record Ran : Type 0 where
   pub machine : Machine
   pub steps : ℕ
   pub unassigned : ℕ
+  pub last : StepAnswer
 
 abbrev pub at-once : Machine → Ran
-at-once m = record { machine = m; steps = 0; unassigned = 0 }
+at-once m = record { machine = m; steps = 0; unassigned = 0; last = Nothing }
 
-abbrev pub one-more : Kind → Ran → Ran
-one-more k r = record { machine = r .machine; steps = suc (r .steps); unassigned = missed k + r .unassigned }
+-- a step with this answer, and then a run
+abbrev pub one-more : StepAnswer → Ran → Ran
+one-more a r =
+    record {
+      machine = r .machine;
+      steps = suc (r .steps);
+      unassigned = missed a + r .unassigned;
+      last = latest a (r .last);
+    }
 
 -- n steps at most, each with the next record; none is begun at the stop address.
 unfoldable pub runs : ℕ → ℕ → List ℕ → Machine → Ran
@@ -49,7 +45,7 @@ runs stop (suc n) [] m = at-once m
 runs stop (suc n) (r ∷ rs) m =
     elim (eqb (m .state .pc) stop) [
       | true ↦ at-once m
-      | false ↦ one-more (step r m .value) (runs stop n rs (step r m .machine))
+      | false ↦ one-more (answer r m) (runs stop n rs (step r m .machine))
     ]
 
 -- The run's refusals in the order checked: memory's size, the state, more steps than records. The arguments are the memory's
@@ -61,14 +57,19 @@ run-refusal bytes s records steps =
     else if ltb records steps then 3
     else 0
 
--- the answer and the memory after the call; a refusal returns the state as given, with no steps, and stores nothing
+-- the answer and the memory after the call
 pub record RunResult : Type 0 where
   pub answer : RunAnswer
   pub memory : List ℕ
 
+-- a refusal returns the state as given, with no steps and nothing as the last, and stores nothing
+abbrev pub refused : ℕ → State → List ℕ → RunResult
+refused number s m =
+    record { answer = record { number = number; state = s; steps = 0; unassigned = 0; last = Nothing }; memory = m }
+
 unfoldable pub run : List ℕ → State → List ℕ → ℕ → ℕ → RunResult
 run m s records steps stop =
-    if eqb refusal 0 then accepted else refused
+    if eqb refusal 0 then accepted else refused refusal s m
   where
     refusal : ℕ
     refusal = run-refusal (length m) s (length records) steps
@@ -79,12 +80,15 @@ run m s records steps stop =
     accepted : RunResult
     accepted =
         record {
-          answer = record { number = 0; state = done .machine .state; steps = done .steps; unassigned = done .unassigned };
+          answer = record {
+            number = 0;
+            state = done .machine .state;
+            steps = done .steps;
+            unassigned = done .unassigned;
+            last = done .last;
+          };
           memory = done .machine .memory;
         }
-
-    refused : RunResult
-    refused = record { answer = record { number = refusal; state = s; steps = 0; unassigned = 0 }; memory = m }
 
 -- What a call of run promises: its answer and the memory after it are these.
 abbrev pub Promised : List ℕ → State → List ℕ → ℕ → ℕ → RunAnswer → List ℕ → Type 0
@@ -101,7 +105,7 @@ pub record StateResult : Type 0 where
 
 -- Power up is the reset entry taken by the blank state; the entry itself sets no-sample.
 unfoldable pub power-up : List ℕ → StateResult
-power-up m = if eqb refusal 0 then accepted else refused
+power-up m = if eqb refusal 0 then accepted else blank-again
   where
     refusal : ℕ
     refusal = power-up-refusal (length m)
@@ -112,5 +116,5 @@ power-up m = if eqb refusal 0 then accepted else refused
     accepted : StateResult
     accepted = record { answer = record { number = 0; state = entered .state }; memory = entered .memory }
 
-    refused : StateResult
-    refused = record { answer = record { number = refusal; state = blank }; memory = m }
+    blank-again : StateResult
+    blank-again = record { answer = record { number = refusal; state = blank }; memory = m }

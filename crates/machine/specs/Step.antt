@@ -6,10 +6,9 @@ use Rattle.bits.specs.Bits.{if_then_else_, bit, put}
 use Rattle.psi.specs.Clock as Clock
 use Rattle.psi.specs.Pins as Pins
 use Rattle.psi.specs.declared.Record.{Record}
+use Rattle.machine.specs.declared.Deed.{Deed}
 use Rattle.machine.specs.declared.Signal.{Signal}
 use Rattle.machine.specs.declared.Signal.the-variants.{Reset as reset, Load as load, Level as level, Nothing as none}
-use Rattle.machine.specs.declared.Kind.{Kind}
-use Rattle.machine.specs.declared.Kind.the-variants.{Reset as was-reset, Load as was-load, Idle as was-idle, Level as was-level, Ran as ran}
 use Rattle.machine.specs.State.{Registers, Machine, idle, no-sample, with-psi}
 use Rattle.machine.specs.Micro.{Micro, done, to-flags, _>>=_, _>>_, registers, set, fetched}
 use Rattle.machine.specs.Perform.{Performed, perform}
@@ -41,6 +40,12 @@ enter vector f = do
   set-status f
   r ← registers
   set to-flags (put idle false (r .flags))
+
+-- what a step was; of an instruction also what the book of open entries goes by
+pub data Kind : Type 0 where
+  was-reset was-load was-idle : Kind
+  was-level : ℕ → Kind
+  ran : Deed → Kind
 
 -- A step without an entry (Q-12): an idle machine does nothing; any other clears no-sample and executes an instruction.
 unfoldable pub proceed : Micro Kind

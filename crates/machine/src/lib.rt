@@ -42,15 +42,18 @@ pub enum Signal {
     Nothing,
 }
 
-// What a step was.
-pub enum Kind {
+// What a step answers; `Nothing` is for a run that did none.
+pub enum StepAnswer {
+    // No step was done.
+    Nothing,
     Reset,
     Load,
-    Idle,
     // An interrupt of this level.
     Level(u16),
-    // An instruction.
-    Ran(Deed),
+    Instruction,
+    Idle,
+    // An unassigned word, which X may have led to; the PC before the step.
+    Unassigned(u16),
 }
 
 impl State {
@@ -109,13 +112,14 @@ impl State {
     }
 }
 
-// The run's answer: the number of document 01's table, the state, the steps done, and how many of them met an unassigned
-// word.
+// The run's answer: the number of document 01's table, the state, the steps done, how many of them met an unassigned word, and what
+// the last of them answered.
 pub struct RunAnswer {
     pub number: u16,
     pub state: State,
     pub steps: usize,
     pub unassigned: usize,
+    pub last: StepAnswer,
 }
 
 // An answer of a number and a state.
