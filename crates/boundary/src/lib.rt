@@ -4,16 +4,17 @@ ghost use Prim.Native.Nat.{ℕ};
 ghost use Rattle.memory.specs.Memory.{Installed};
 ghost use Rattle.machine.specs.State.{at};
 ghost use Rattle.machine.specs.Step as Step;
+ghost use Rattle.machine.specs.Answer as Answer;
 ghost use Rattle.machine.specs.Perform.{perform, performed};
-use machine::Kind;
 use machine::Signal;
 use machine::State;
+use machine::StepAnswer;
 use machine::bus;
 use operand::results;
 
-// What a step was, and the state after it.
+// What a step answers, and the state after it.
 pub struct Stepped {
-    pub kind: Kind,
+    pub answer: StepAnswer,
     pub state: State,
 }
 
@@ -32,12 +33,13 @@ pub fn enter(bytes: &mut [u8], state: State, signal: Signal) -> State
 // No entry: an idle machine does nothing; any other clears no-sample and executes one instruction.
 fn proceed(bytes: &mut [u8], state: State, levels: u32) -> Stepped
     requires { ⌜ Installed (now bytes) ⌝ }
-    ensures { λ r. ⌜ perform levels Step.proceed (at state (now (bytes .entry))) ≡ performed (r .kind) (at (r .state) (now (bytes .exit))) ⌝ }
+    ensures { λ r. ⌜ Answer.as-told (state .pc) (perform levels Step.proceed (at state (now (bytes .entry)))) ≡ performed (r .answer) (at (r .state) (now (bytes .exit))) ⌝ }
 {
+    let pc = state.pc;
     let flags = state.flags;
     if bits::bit(flags as u32, State::IDLE) {
         return Stepped {
-            kind: Kind::Idle,
+            answer: StepAnswer::Idle,
             state,
         };
     }
@@ -48,7 +50,7 @@ fn proceed(bytes: &mut [u8], state: State, levels: u32) -> Stepped
     let deed = executed.deed;
     let after = executed.state;
     Stepped {
-        kind: Kind::Ran(deed),
+        answer: step_answers::told_word(pc, deed),
         state: after,
     }
 }
@@ -56,27 +58,27 @@ fn proceed(bytes: &mut [u8], state: State, levels: u32) -> Stepped
 // What happens at a boundary where this is taken.
 fn boundary(bytes: &mut [u8], state: State, levels: u32, signal: Signal) -> Stepped
     requires { ⌜ Installed (now bytes) ⌝ }
-    ensures { λ r. ⌜ perform levels (Step.boundary signal) (at state (now (bytes .entry))) ≡ performed (r .kind) (at (r .state) (now (bytes .exit))) ⌝ }
+    ensures { λ r. ⌜ Answer.as-told (state .pc) (perform levels (Step.boundary signal) (at state (now (bytes .entry)))) ≡ performed (r .answer) (at (r .state) (now (bytes .exit))) ⌝ }
 {
     match signal {
         Signal::Reset => {
             let entered = enter(bytes, state, Signal::Reset);
             Stepped {
-                kind: Kind::Reset,
+                answer: StepAnswer::Reset,
                 state: entered,
             }
         }
         Signal::Load => {
             let entered = enter(bytes, state, Signal::Load);
             Stepped {
-                kind: Kind::Load,
+                answer: StepAnswer::Load,
                 state: entered,
             }
         }
         Signal::Level(k) => {
             let entered = enter(bytes, state, Signal::Level(k));
             Stepped {
-                kind: Kind::Level(k),
+                answer: StepAnswer::Level(k),
                 state: entered,
             }
         }
@@ -87,7 +89,7 @@ fn boundary(bytes: &mut [u8], state: State, levels: u32, signal: Signal) -> Step
 // One step with a pin record.
 pub fn step(bytes: &mut [u8], state: State, word: u32) -> Stepped
     requires { ⌜ Installed (now bytes) ⌝ }
-    ensures { λ r. ⌜ Step.step word (at state (now (bytes .entry))) ≡ performed (r .kind) (at (r .state) (now (bytes .exit))) ⌝ }
+    ensures { λ r. ⌜ Answer.answered word (at state (now (bytes .entry))) ≡ performed (r .answer) (at (r .state) (now (bytes .exit))) ⌝ }
 {
     let record = psi::split(word);
     let before = state.psi;

@@ -1,10 +1,10 @@
--- A run goes on from where some steps have led: each step takes one from the steps left and one record, and adds to the counts.
+-- A run goes on from where some steps have led: each step takes one from the steps left and one record, adds to the counts, and is the last
+-- so far.
 use Prim.Native.Nat.{ℕ, suc, _+_, _-_, _<_}
 use mathlib.Core.Path.{_≡_, refl}
 use mathlib.Core.Bool.{Bool, true, false, not}
 use mathlib.Core.List.{List}
 use native.Mathlib.Omega.{arith}
-use native.Mathlib.Nat.{zero-add, add-assoc}
 use native.Mathlib.Numerals.{add-one}
 use lib.ListN.{length, getD, drop}
 use lib.Seq.{drop-cons}
@@ -13,34 +13,30 @@ use borrow.Author.Tests.{eq-eqb, eqb-true}
 use Rattle.bits.specs.Bits.{if_then_else_}
 use Rattle.memory.specs.Memory.{size}
 use Rattle.machine.specs.declared.State.{State}
-use Rattle.machine.specs.declared.Kind.{Kind}
+use Rattle.machine.specs.declared.StepAnswer.{StepAnswer}
 use Rattle.machine.specs.State.{Machine, at, blank}
 use Rattle.replay_core.specs.Runs.{ended}
-use Rattle.machine.specs.Perform.{perform}
+use Rattle.machine.specs.Perform.{performed, perform}
 use Rattle.machine.specs.declared.RunAnswer.{RunAnswer}
 use Rattle.machine.specs.declared.Signal.the-variants.{Reset as reset}
-use Rattle.machine.specs.Step.{step, boundary}
+use Rattle.machine.specs.Step.{boundary}
+use Rattle.machine.specs.Answer.{as-told, answered, answer, latest}
+use Rattle.machine.specs.Run.{one-more, runs, run-refusal, run, Promised, power-up-refusal, power-up}
 use Rattle.run_rules.proofs.Laws as Laws
-use Rattle.machine.specs.Run.{Ran, one-more, missed, runs, run-refusal, run, Promised, power-up-refusal, power-up}
-
--- a run that d steps, u of them unassigned words, went before
-abbrev pub further : ℕ → ℕ → Ran → Ran
-further d u r = record { machine = r .machine; steps = d + r .steps; unassigned = u + r .unassigned }
-
-pub further-none : (r : Ran) → further 0 0 r ≡ r
-further-none r = simp zero-add
-
-pub further-once : (d u : ℕ) (k : Kind) (r : Ran) → further d u (one-more k r) ≡ further (d + 1) (u + missed k) r
-further-once d u k r =
-    rw (let e : d + suc (r .steps) ≡ d + 1 + r .steps = omega arith in e, ← add-assoc u (missed k) (r .unassigned))
 
 -- elsewhere than at the stop address one step is done
 pub goes-on : (stop steps done : ℕ) (rs : List ℕ) (m : Machine) → eqb (m .state .pc) stop ≡ false → done < steps → done < length rs
     → runs stop (steps - done) (drop done rs) m
-    ≡ one-more (step (getD rs done 0) m .value) (runs stop (steps - (done + 1)) (drop (done + 1) rs) (step (getD rs done 0) m .machine))
+    ≡ one-more (answered (getD rs done 0) m .value) (runs stop (steps - (done + 1)) (drop (done + 1) rs) (answered (getD rs done 0) m .machine))
+unfolding as-told answer
 goes-on stop steps done rs m e h l =
     rw (let left : steps - done ≡ suc (steps - (done + 1)) = omega arith in left, drop-cons rs done 0 l, add-one done)
     (Laws.goes-on stop (steps - suc done) (getD rs done 0) (drop (suc done) rs) m e)
+
+-- the step that was done is the latest so far
+pub latest-step : (b a : StepAnswer) (word : ℕ) (m n : Machine) → answered word m ≡ performed a n → latest b a ≡ a
+unfolding answer
+latest-step b a word m n e = rw (answer, e) at (Laws.latest-answer b word m)
 
 -- power up without a refusal
 passed : (x : Bool) → _≡_ {A = ℕ} (if not x then 1 else 0) 0 → x ≡ true

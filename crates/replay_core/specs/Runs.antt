@@ -7,4 +7,4 @@ use Rattle.machine.specs.Run.{Ran}
 
 -- a run that has ended with this answer and this memory
 abbrev pub ended : RunAnswer → List ℕ → Ran
-ended r m = record { machine = at (r .state) m; steps = r .steps; unassigned = r .unassigned }
+ended r m = record { machine = at (r .state) m; steps = r .steps; unassigned = r .unassigned; last = r .last }

@@ -10,6 +10,7 @@ use machine::RunAnswer;
 use machine::Signal;
 use machine::State;
 use machine::StateAnswer;
+use machine::StepAnswer;
 
 // At most `steps` steps, one record each, up to the stop address.
 fn run_steps(bytes: &mut [u8], state: State, records: &[u32], steps: usize, stop: u16) -> RunAnswer
@@ -21,6 +22,7 @@ fn run_steps(bytes: &mut [u8], state: State, records: &[u32], steps: usize, stop
     let mut s = state;
     let mut done: usize = 0;
     let mut unassigned: usize = 0;
+    let mut last = StepAnswer::Nothing;
     while done < steps {
         let pc = s.pc;
         if pc == stop {
@@ -29,13 +31,15 @@ fn run_steps(bytes: &mut [u8], state: State, records: &[u32], steps: usize, stop
                 state: s,
                 steps: done,
                 unassigned,
+                last,
             };
         }
         let stepped = boundary::step(bytes, s, records[done]);
-        let kind = stepped.kind;
+        let answer = stepped.answer;
         let after = stepped.state;
         s = after;
-        unassigned = unassigned + run_rules::missed(kind);
+        last = answer;
+        unassigned = unassigned + step_answers::missed(answer);
         done = done + 1;
     }
     RunAnswer {
@@ -43,6 +47,7 @@ fn run_steps(bytes: &mut [u8], state: State, records: &[u32], steps: usize, stop
         state: s,
         steps: done,
         unassigned,
+        last,
     }
 }
 
@@ -57,6 +62,7 @@ pub fn run(bytes: &mut [u8], state: State, records: &[u32], steps: usize, stop: 
             state,
             steps: 0,
             unassigned: 0,
+            last: StepAnswer::Nothing,
         };
     }
     run_steps(bytes, state, records, steps, stop)

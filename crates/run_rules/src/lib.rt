@@ -1,27 +1,7 @@
-// When a call of run or power up is refused, and which steps count as unassigned words.
+// When a call of run or power up is refused.
 ghost use mathlib.Core.Path.{_≡_};
 ghost use Rattle.machine.specs.Run as Run;
-use machine::Deed;
-use machine::Kind;
 use machine::State;
-
-// 1 where a step met an unassigned word, else 0.
-pub fn missed(kind: Kind) -> usize
-    ensures { λ r. ⌜ r ≡ Run.missed kind ⌝ }
-{
-    match kind {
-        Kind::Reset => 0,
-        Kind::Load => 0,
-        Kind::Idle => 0,
-        Kind::Level(_) => 0,
-        Kind::Ran(deed) => match deed {
-            Deed::Ordinary => 0,
-            Deed::Unassigned => 1,
-            Deed::Switched => 0,
-            Deed::Returned => 0,
-        },
-    }
-}
 
 // The refusal of a run, in the order checked: 1 memory's size, 2 the state, 3 more steps than records; 0 where it is accepted.
 pub fn run_refusal(size: usize, state: State, records: usize, steps: usize) -> u16

@@ -1,20 +1,21 @@
 -- Each arm is the definition's clause.
 use Rattle.machine.proofs.Bind.{perform-bind, perform-done}
 use Rattle.machine.specs.Step as Step
+use Rattle.machine.specs.Answer as Answer
 use borrow.Author.Needs.{needs}
 use Rattle.boundary.proofs.boundary.Statement.{statement}
 use Rattle.boundary.proofs.boundary.Tie as tie
 
 returns : tie.Need-returns
-unfolding Step.boundary
+unfolding Step.boundary Answer.as-told Answer.told
 returns c = rw (c .before .before .before .before .enum-told .given .1, perform-bind, c .before .before .enter .ensures _, perform-done)
 
 returns-2 : tie.Need-returns-2
-unfolding Step.boundary
+unfolding Step.boundary Answer.as-told Answer.told
 returns-2 c = rw (c .before .before .before .before .enum-told2 .given .1, perform-bind, c .before .before .enter2 .ensures _, perform-done)
 
 returns-3 : tie.Need-returns-3
-unfolding Step.boundary
+unfolding Step.boundary Answer.as-told Answer.told
 returns-3 c = rw (c .before .before .before .before .before .signal .given .1, perform-bind, c .before .before .enter3 .ensures _, perform-done)
 
 returns-4 : tie.Need-returns-4

@@ -9,7 +9,8 @@ returns : tie.Need-returns
 unfolding Step.step Step.stepping
 returns c =
     let clocked = c .before .before .before .before .before .before .with-psi .ensures in
-    rw (perform-bind, perform-registers, ← c .before .before .before .before .before .before .before .before .before .before .split .ensures, ← c .before .before .before .before .before .before .before .before .advance .ensures, ← c .before .before .before .before .before .before .before .code .ensures, ← c .before .before .before .before .before .signal .ensures, ← rw clocked at (c .before .before .before .before .admitted .ensures))
+    let taken = c .before .before .before .before in
+    rw (perform-bind, perform-registers, ← taken .before .before .before .before .before .before .split .ensures, ← taken .before .before .before .before .advance .ensures, ← taken .before .before .before .code .ensures, ← taken .before .signal .ensures, ← rw clocked at (taken .admitted .ensures))
     (rw clocked at (c .before .before .boundary .ensures))
 
 pub step-spec : {M : Type 1} → statement M
