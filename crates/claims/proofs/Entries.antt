@@ -11,37 +11,37 @@ use Rattle.psi.specs.Pins.{parted}
 use Rattle.psi.proofs.Cases.{either-way}
 use Rattle.machine.specs.declared.Deed.the-variants.{Ordinary, Unassigned, Switched, Returned}
 use Rattle.machine.specs.declared.Signal.the-variants.{Reset as reset, Load as load-line, Level as level}
-use Rattle.machine.specs.declared.Kind.{Kind}
-use Rattle.machine.specs.declared.Kind.the-variants.{Reset as was-reset, Load as was-load, Idle as was-idle, Level as was-level, Ran as ran}
 use Rattle.machine.specs.State.{Machine, idle, no-sample}
 use Rattle.machine.specs.Micro.{registers, set, load, store}
 use Rattle.machine.specs.Perform.{Performed, perform}
 use Rattle.machine.specs.Operands.{set-register}
 use Rattle.machine.specs.Groups as G
-use Rattle.machine.specs.Step.{vector, entry-status, enter, boundary, clocked, step}
+use Rattle.machine.specs.Step.{Kind, was-reset, was-load, was-idle, was-level, ran, vector, entry-status, enter, boundary, clocked, step}
+use Rattle.machine.specs.Answer.{told, as-told, answer}
 use Rattle.machine.specs.Flags.{Flags-by-word, Flags-by-step}
 use Rattle.machine.proofs.Bind.{perform-bind, perform-done}
 use Rattle.machine.proofs.Flags.{steps-tell-the-flags}
 use Rattle.claims.specs.Interrupts.{taken}
 use Rattle.claims.specs.Entries.{Caused, Entry, Alike, Entries-leave-the-psi, Entries-set-no-sample, Entries-clear-idle}
-use Rattle.claims.proofs.Interrupts.{kinds-tell}
+use Rattle.claims.proofs.Interrupts.{answers-tell}
 
 entered : (a : ℕ) (f : ℕ → ℕ) (v : ℕ) (m : Machine) → perform v (enter a f) m .machine .state .psi ≡ m .state .psi
 unfolding perform enter G.switch G.set-status registers set load store set-register
 entered a f v m = refl
 
-caused : (k : Kind) → Caused k → (v : ℕ) (m : Machine) → perform v (boundary (taken k)) m .machine .state .psi ≡ m .state .psi
-unfolding Caused taken boundary
-caused was-reset c v m = rw (perform-bind, perform-done) (entered (vector reset) (entry-status reset) v m)
-caused was-load c v m = rw (perform-bind, perform-done) (entered (vector load-line) (entry-status load-line) v m)
-caused (was-level k) c v m = rw (perform-bind, perform-done) (entered (vector (level k)) (entry-status (level k)) v m)
-caused was-idle c v m = absurd c
-caused (ran d) c v m = absurd c
+caused : (pc : ℕ) (k : Kind) → Caused k → (v : ℕ) (m : Machine) → perform v (boundary (taken (told pc k))) m .machine .state .psi ≡ m .state .psi
+unfolding Caused taken told boundary
+caused pc was-reset c v m = rw (perform-bind, perform-done) (entered (vector reset) (entry-status reset) v m)
+caused pc was-load c v m = rw (perform-bind, perform-done) (entered (vector load-line) (entry-status load-line) v m)
+caused pc (was-level k) c v m = rw (perform-bind, perform-done) (entered (vector (level k)) (entry-status (level k)) v m)
+caused pc was-idle c v m = absurd c
+caused pc (ran d) c v m = absurd c
 
 step-entered : (word : ℕ) (m : Machine) → Caused (step word m .value) → step word m .machine .state .psi ≡ advanced (parted word .cycles) (m .state .psi)
+unfolding answer as-told
 step-entered word m c =
-    subst (λ (p : Performed Kind). p .machine .state .psi ≡ advanced (parted word .cycles) (m .state .psi)) (sym (kinds-tell word m))
-    (caused (step word m .value) c (parted word .levels) (clocked (parted word .cycles) m))
+    subst (λ (p : Performed Kind). p .machine .state .psi ≡ advanced (parted word .cycles) (m .state .psi)) (sym (answers-tell word m))
+    (caused (m .state .pc) (step word m .value) c (parted word .levels) (clocked (parted word .cycles) m))
 
 -- the clock leaves masks, ports and load
 alike-tick : (p q : Psi) → Alike p q → Alike (tick p) q

@@ -1,4 +1,4 @@
--- The kind of a step tells which signal was admitted, and the signal comes from the lowest request's number by two choices,
+-- The answer of a step tells which signal was admitted, and the signal comes from the lowest request's number by two choices,
 -- each of which either keeps or drops it.
 use Prim.Native.Nat.{ℕ, _+_, _-_, _%_, _≤_, _<_}
 use mathlib.Core.Path.{_≡_, refl, sym, ap, subst, _∙_}
@@ -17,11 +17,15 @@ use Rattle.machine.specs.Micro.{Micro}
 use Rattle.machine.specs.Perform.{perform}
 use Rattle.machine.specs.declared.Signal.{Signal}
 use Rattle.machine.specs.declared.Signal.the-variants.{Reset as reset, Load as load, Nothing as none, Level as level}
-use Rattle.machine.specs.declared.Kind.{Kind}
-use Rattle.machine.specs.declared.Kind.the-variants.{Reset as was-reset, Load as was-load, Level as was-level}
-use Rattle.machine.specs.Step.{signal, admitted, boundary, proceed, clocked, stepping, step}
+use Rattle.machine.specs.declared.Deed.{Deed}
+use Rattle.machine.specs.declared.Deed.the-variants as deed
+use Rattle.machine.specs.declared.StepAnswer.{StepAnswer}
+use Rattle.machine.specs.declared.StepAnswer.the-variants.{Reset, Load, Level}
+use Rattle.machine.specs.Answer.{told-word, told, as-told, answer}
+use Rattle.machine.specs.Step.{Kind, signal, admitted, boundary, proceed, clocked, stepping, step}
 use Rattle.machine.proofs.Bind.{perform-bind, perform-done, perform-registers}
-use Rattle.claims.specs.Interrupts.{Lowest, Levels-exactly, None-unsampled, Load-exactly, Reset-exactly, taken, Kinds-tell}
+use Rattle.claims.specs.Answers.{Levels-in-range}
+use Rattle.claims.specs.Interrupts.{Lowest, code-at, at-step, Levels-exactly, None-unsampled, Load-exactly, Reset-exactly, taken, Answers-tell}
 
 -- the number that `request` gives is the lowest request's, where there is one; so is the code
 clash : (b : Bool) → b ≡ true → b ≡ false → ⊥
@@ -107,63 +111,65 @@ admitted-level r c k h =
     let d : c - 2 ≡ k = omega arith in
     rw (le-ltb c 2 (omega arith), ne-eqb c 2 (omega arith), lt-ltb c 7 (omega arith), n, d, le-leb _ _ mask)
 
--- the code at a step, and the signal that is admitted
-abbrev code-at : ℕ → Machine → ℕ
-code-at word m = code (clocked (parted word .cycles) m .state .psi) (parted word .levels)
-
-at-step : ℕ → Machine → Signal
-at-step word m = admitted (registers (m .state)) (signal (code-at word m))
-
-step-is : (word : ℕ) (m : Machine)
+pub step-is : (word : ℕ) (m : Machine)
     → step word m ≡ perform (parted word .levels) (boundary (at-step word m)) (clocked (parted word .cycles) m)
 unfolding step stepping at-step
 step-is word m = rw (perform-bind, perform-registers)
 
--- each microprogram of a boundary ends by saying its kind
-proceeds : (v : ℕ) (m : Machine) → taken (perform v proceed m .value) ≡ none
-unfolding taken proceed
-proceeds v m =
+-- where a word was executed, nothing was taken at the boundary
+taken-word : (pc : ℕ) (d : Deed) → taken (told-word pc d) ≡ none
+unfolding taken told-word
+taken-word pc deed.Ordinary = refl
+taken-word pc deed.Unassigned = refl
+taken-word pc deed.Switched = refl
+taken-word pc deed.Returned = refl
+
+-- each microprogram of a boundary ends by saying what it was
+proceeds : (v pc : ℕ) (m : Machine) → taken (told pc (perform v proceed m .value)) ≡ none
+unfolding taken told proceed
+proceeds v pc m =
     rw (perform-bind, perform-registers)
-    (either-way (λ (p : Micro Kind). taken (perform v p m .value) ≡ none) (bit idle (m .state .flags))
-    (λ t. rw perform-done) (λ f. rw (perform-bind, perform-bind, perform-bind, perform-done)))
+    (either-way (λ (p : Micro Kind). taken (told pc (perform v p m .value)) ≡ none) (bit idle (m .state .flags))
+    (λ t. rw perform-done) (λ f. rw (perform-bind, perform-bind, perform-bind, perform-done) (taken-word pc _)))
 
-taken-boundary : (v : ℕ) (g : Signal) (m : Machine) → taken (perform v (boundary g) m .value) ≡ g
-unfolding boundary taken
-taken-boundary v reset m = rw (perform-bind, perform-done)
-taken-boundary v load m = rw (perform-bind, perform-done)
-taken-boundary v (level k) m = rw (perform-bind, perform-done)
-taken-boundary v none m = proceeds v m
+taken-boundary : (v pc : ℕ) (g : Signal) (m : Machine) → taken (told pc (perform v (boundary g) m .value)) ≡ g
+unfolding boundary taken told
+taken-boundary v pc reset m = rw (perform-bind, perform-done)
+taken-boundary v pc load m = rw (perform-bind, perform-done)
+taken-boundary v pc (level k) m = rw (perform-bind, perform-done)
+taken-boundary v pc none m = proceeds v pc m
 
-taken-step : (word : ℕ) (m : Machine) → taken (step word m .value) ≡ at-step word m
-taken-step word m = rw step-is (taken-boundary _ (at-step word m) _)
+taken-step : (word : ℕ) (m : Machine) → taken (answer word m) ≡ at-step word m
+unfolding answer as-told
+taken-step word m = rw step-is (taken-boundary _ (m .state .pc) (at-step word m) _)
 
--- what is known of a step by its kind
+-- what is known of a step by its answer
 module _ (word : ℕ) (m : Machine) where
   Held : Signal → Type 0
   Held = Holds (registers (m .state)) (code-at word m)
 
-  held : (k : Kind) → step word m .value ≡ k → Held (taken k)
+  held : (a : StepAnswer) → answer word m ≡ a → Held (taken a)
   unfolding at-step Held
-  held k e = subst Held (sym (taken-step word m) ∙ ap taken e) (holds _ _)
+  held a e = subst Held (sym (taken-step word m) ∙ ap taken e) (holds _ _)
 
-  -- and what makes it of that kind
-  resets : Held reset → step word m .value ≡ was-reset
-  unfolding at-step Held boundary
+  -- and what makes it answer that
+  resets : Held reset → answer word m ≡ Reset
+  unfolding at-step Held boundary answer as-told told
   resets h = rw (step-is, admitted-reset _ _ h, perform-bind, perform-done)
 
-  loads : Held load → step word m .value ≡ was-load
-  unfolding at-step Held boundary
+  loads : Held load → answer word m ≡ Load
+  unfolding at-step Held boundary answer as-told told
   loads h = rw (step-is, admitted-load _ _ h, perform-bind, perform-done)
 
-  enters : (k : ℕ) → Held (level k) → step word m .value ≡ was-level k
-  unfolding at-step Held boundary
+  enters : (k : ℕ) → Held (level k) → answer word m ≡ Level k
+  unfolding at-step Held boundary answer as-told told
   enters k h = rw (step-is, admitted-level _ _ k h, perform-bind, perform-done)
 
 pub levels-exactly : Levels-exactly
 unfolding Held Holds taken
 levels-exactly word m k sampled = (
   λ e.
-      let (s, c, lo, hi, mask) = held word m (was-level k) e in
+      let (s, c, lo, hi, mask) = held word m (Level k) e in
       let (n, l, q) = lowest-of _ _ _ c (omega arith) in
       (n, l, q, omega arith, omega arith, omega arith),
   λ a.
@@ -174,13 +180,13 @@ levels-exactly word m k sampled = (
 pub none-unsampled : None-unsampled
 unfolding Held Holds taken
 none-unsampled word m k set =
-    (λ e. clash _ set (held word m (was-level k) e .0), λ e. clash _ set (held word m was-load e .0))
+    (λ e. clash _ set (held word m (Level k) e .0), λ e. clash _ set (held word m Load e .0))
 
 pub load-exactly : Load-exactly
 unfolding Held Holds taken
 load-exactly word m = (
   λ e.
-      let (s, c) = held word m was-load e in
+      let (s, c) = held word m Load e in
       let (n, l, q) = lowest-of _ _ _ c (omega arith) in
       (s, (n, l, q)),
   λ a. let (s, (n, l, q)) = a in loads word m (s, code-of _ _ n l ∙ q),
@@ -190,11 +196,15 @@ pub reset-exactly : Reset-exactly
 unfolding Held Holds taken
 reset-exactly word m = (
   λ e.
-      let c = held word m was-reset e in
+      let c = held word m Reset e in
       let (n, l, q) = lowest-of _ _ (code-at word m) refl (omega arith) in
       (n, l, omega arith),
   λ a. let (n, l, q) = a in let c = code-of _ _ n l in resets word m (omega arith),
 )
 
-pub kinds-tell : Kinds-tell
-kinds-tell word m = rw taken-step (step-is word m)
+pub answers-tell : Answers-tell
+answers-tell word m = rw taken-step (step-is word m)
+
+pub levels-in-range : Levels-in-range
+unfolding Held Holds taken
+levels-in-range word m k e = let (s, c, lo, hi, mask) = held word m (Level k) e in (omega arith, omega arith)

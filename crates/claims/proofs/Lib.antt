@@ -1,4 +1,5 @@
 pub mod Entries
 pub mod Interrupts
 pub mod Runs
+pub mod Answers
 pub mod Words

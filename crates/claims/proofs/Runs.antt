@@ -5,7 +5,7 @@ use mathlib.Core.Path.{_≡_, refl, sym, _∙_}
 use mathlib.Core.Bool.{Bool, true, false}
 use mathlib.Core.List.{List, [], _∷_}
 use native.Mathlib.Omega.{arith}
-use native.Mathlib.Nat.{zero-add, suc-add, add-assoc}
+use native.Mathlib.Nat.{zero-add, suc-add}
 use borrow.Author.Tests.{eqb-true, eqb-false, eq-eqb, ne-eqb, le-ltb}
 use native.Mathlib.Decide.{decLt}
 use lib.Dec.{eqb}
@@ -14,18 +14,18 @@ use Rattle.memory.specs.Memory.{size}
 use Rattle.psi.proofs.Cases.{either-way}
 use Rattle.machine.specs.declared.State.{State}
 use Rattle.machine.specs.State.{Machine, at, well-formed}
-use Rattle.machine.specs.declared.Kind.{Kind}
 use Rattle.machine.specs.Step.{step}
+use Rattle.machine.specs.Answer.{answer, latest}
 use Rattle.machine.specs.Run.{Ran, at-once, one-more, runs, run-refusal, RunResult, run}
-use Rattle.run_rules.proofs.Laws.{missed-at-most, stopped, goes-on, accepted}
+use Rattle.run_rules.proofs.Laws.{both, both-none, both-more, missed-at-most, stopped, goes-on, accepted}
 use Rattle.machine.proofs.Laws.{form, keeps-the-length}
 use Rattle.machine.proofs.Flags.{keeps-well-formed}
 use Rattle.claims.specs.Runs.{followed, Runs-in-parts, Refused-runs, Accepted-exactly, Steps-at-most, Stops-exactly, Odd-never-stops}
 
 -- what a machine needs for a run to be accepted, and a step keeps
-record Fit (m : Machine) : Type 0 where
-  sized : length (m .memory) ≡ size
-  formed : well-formed (m .state) ≡ true
+pub record Fit (m : Machine) : Type 0 where
+  pub sized : length (m .memory) ≡ size
+  pub formed : well-formed (m .state) ≡ true
 
 step-fit : (word : ℕ) (m : Machine) → Fit m → Fit (step word m .machine)
 unfolding step
@@ -37,7 +37,7 @@ step-fit word m f =
 
 module _ (stop : ℕ) where
   -- why a run does no step more
-  data Over : ℕ → List ℕ → Machine → Type 0 where
+  pub data Over : ℕ → List ℕ → Machine → Type 0 where
     enough : {rs : List ℕ} {m : Machine} → Over zero rs m
     used-up : {n : ℕ} {m : Machine} → Over n [] m
     at-stop : {n : ℕ} {rs : List ℕ} {m : Machine} → eqb (m .state .pc) stop ≡ true → Over n rs m
@@ -47,13 +47,13 @@ module _ (stop : ℕ) where
       (none : (n : ℕ) (rs : List ℕ) (m : Machine) → Over n rs m → P n rs m (at-once m))
       (more :
       (n r : ℕ) (rs : List ℕ) (m : Machine) (x : Ran) → eqb (m .state .pc) stop ≡ false
-      → P n rs (step r m .machine) x → P (suc n) (r ∷ rs) m (one-more (step r m .value) x)) where
+      → P n rs (step r m .machine) x → P (suc n) (r ∷ rs) m (one-more (answer r m) x)) where
     either : (b : Bool) (n r : ℕ) (rs : List ℕ) (m : Machine) → eqb (m .state .pc) stop ≡ b
         → P n rs (step r m .machine) (runs stop n rs (step r m .machine)) → P (suc n) (r ∷ rs) m (runs stop (suc n) (r ∷ rs) m)
     either true n r rs m e p = rw (stopped stop (suc n) (r ∷ rs) m e) (none _ _ m (at-stop e))
     either false n r rs m e p = rw (goes-on stop n r rs m e) (more n r rs m _ e p)
 
-    every-run : (n : ℕ) (rs : List ℕ) (m : Machine) → P n rs m (runs stop n rs m)
+    pub every-run : (n : ℕ) (rs : List ℕ) (m : Machine) → P n rs m (runs stop n rs m)
     unfolding runs
     every-run zero rs m = none zero rs m enough
     every-run (suc n) [] m = none (suc n) [] m used-up
@@ -62,23 +62,11 @@ module _ (stop : ℕ) where
   runs-fit : (n : ℕ) (rs : List ℕ) (m : Machine) → Fit m → Fit (runs stop n rs m .machine)
   runs-fit = every-run (λ n rs m x. Fit m → Fit (x .machine)) (λ n rs m o f. f) (λ n r rs m x e h f. h (step-fit r m f))
 
-  runs-at-most : (n : ℕ) (rs : List ℕ) (m : Machine)
+  pub runs-at-most : (n : ℕ) (rs : List ℕ) (m : Machine)
       → (runs stop n rs m .steps ≤ n) × (runs stop n rs m .unassigned ≤ runs stop n rs m .steps)
   runs-at-most =
       every-run (λ n rs m x. (x .steps ≤ n) × (x .unassigned ≤ x .steps)) (λ n rs m o. omega arith)
-      (λ n r rs m x e h. omega (arith, missed-at-most (step r m .value)))
-
--- a run and then another: counts are summed
-both : Ran → Ran → Ran
-both x y = record { machine = y .machine; steps = x .steps + y .steps; unassigned = x .unassigned + y .unassigned }
-
-both-none : (m : Machine) (y : Ran) → both (at-once m) y ≡ y
-unfolding both
-both-none m y = simp zero-add
-
-both-more : (k : Kind) (x y : Ran) → both (one-more k x) y ≡ one-more k (both x y)
-unfolding both
-both-more k x y = rw (add-assoc, suc-add)
+      (λ n r rs m x e h. omega (arith, missed-at-most (answer r m)))
 
 module _ (stop : ℕ) where
   Apart : ℕ → List ℕ → Machine → Ran → Type 0
@@ -95,7 +83,7 @@ module _ (stop : ℕ) where
   apart-over a rs m (at-stop e) b h = rw (both-none, stopped stop (a + b) rs m e, stopped stop b rs m e)
 
   apart-more : (a r : ℕ) (rs : List ℕ) (m : Machine) (x : Ran) → eqb (m .state .pc) stop ≡ false
-      → Apart a rs (step r m .machine) x → Apart (suc a) (r ∷ rs) m (one-more (step r m .value) x)
+      → Apart a rs (step r m .machine) x → Apart (suc a) (r ∷ rs) m (one-more (answer r m) x)
   unfolding Apart
   apart-more a r rs m x e apart b h =
       rw (both-more, suc-add, goes-on stop (a + b) r rs m e, apart b (omega arith))
@@ -108,14 +96,14 @@ pub refused-runs : Refused-runs
 unfolding run
 refused-runs m s records steps stop ne = rw (ne-eqb (run-refusal (length m) s (length records) steps) 0 ne)
 
-result : Ran → RunResult
+unfoldable pub result : Ran → RunResult
 result x =
     record {
-      answer = record { number = 0; state = x .machine .state; steps = x .steps; unassigned = x .unassigned };
+      answer = record { number = 0; state = x .machine .state; steps = x .steps; unassigned = x .unassigned; last = x .last };
       memory = x .machine .memory;
     }
 
-accepted-runs :
+pub accepted-runs :
     (m : List ℕ) (s : State) (records : List ℕ) (steps stop : ℕ)
     → run-refusal (length m) s (length records) steps ≡ 0
     → run m s records steps stop ≡ result (runs stop steps records (at s m))
@@ -148,7 +136,7 @@ start m = judged (eqb (length (m .memory)) size) (well-formed (m .state)) refl r
     judged true false p q = unfit 2 (omega arith) (λ records steps. rw (p, q))
     judged false b p q = unfit 1 (omega arith) (λ records steps. rw p)
 
-fit-accepted :
+pub fit-accepted :
     (m : Machine) (records : List ℕ) (steps : ℕ) → Fit m → steps ≤ length records
     → run-refusal (length (m .memory)) (m .state) (length records) steps ≡ 0
 unfolding run-refusal
@@ -160,7 +148,7 @@ module _ (m : Machine) (records : List ℕ) (a b stop : ℕ) (h : a + b ≤ leng
       run (m .memory) (m .state) records (a + b) stop ≡ followed (run (m .memory) (m .state) records a stop) records b stop
 
   in-parts-unfit : (k : ℕ) → (k ≡ 0 → ⊥) → ((rs : List ℕ) (steps : ℕ) → run-refusal (length (m .memory)) (m .state) (length rs) steps ≡ k) → In-parts
-  unfolding In-parts
+  unfolding In-parts latest
   in-parts-unfit k ne all =
       let refused : (rs : List ℕ) (n : ℕ) → run-refusal (length (m .memory)) (m .state) (length rs) n ≡ 0 → ⊥ = λ rs n e. ne (sym (all rs n) ∙ e) in
       rw (
@@ -193,7 +181,7 @@ runs-in-parts m s records a b stop h =
       | unfit k ne all ↦ in-parts-unfit (at s m) records a b stop h k ne all
     ]
 
-ready : (m : Machine) (records : List ℕ) (steps : ℕ) → run-refusal (length (m .memory)) (m .state) (length records) steps ≡ 0
+pub ready : (m : Machine) (records : List ℕ) (steps : ℕ) → run-refusal (length (m .memory)) (m .state) (length records) steps ≡ 0
     → Fit m × (steps ≤ length records)
 ready m records steps e =
     let a = accepted _ _ _ _ e in
@@ -219,7 +207,7 @@ module _ (stop : ℕ) where
 
   never-more :
       (n r : ℕ) (rs : List ℕ) (m : Machine) (x : Ran) → eqb (m .state .pc) stop ≡ false
-      → Never-before n rs (step r m .machine) x → Never-before (suc n) (r ∷ rs) m (one-more (step r m .value) x)
+      → Never-before n rs (step r m .machine) x → Never-before (suc n) (r ∷ rs) m (one-more (answer r m) x)
   unfolding Never-before runs
   never-more n r rs m x e p zero l q = eqb-false _ _ e q
   never-more n r rs m x e p (suc k) l q = p k (omega arith) (rw (goes-on stop k r rs m e) at q)

@@ -8,9 +8,7 @@ use Rattle.psi.specs.Clock.{advanced}
 use Rattle.psi.specs.Pins.{parted}
 use Rattle.machine.specs.State.{Machine, idle, no-sample}
 use Rattle.machine.specs.declared.Deed.the-variants.{Ordinary, Unassigned, Switched, Returned}
-use Rattle.machine.specs.declared.Kind.{Kind}
-use Rattle.machine.specs.declared.Kind.the-variants.{Reset as was-reset, Load as was-load, Idle as was-idle, Level as was-level, Ran as ran}
-use Rattle.machine.specs.Step.{step}
+use Rattle.machine.specs.Step.{Kind, was-reset, was-load, was-idle, was-level, ran, step}
 
 -- an entry that the pins cause: reset, LOAD or an interrupt
 unfoldable pub Caused : Kind → Type 0

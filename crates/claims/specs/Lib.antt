@@ -1,4 +1,5 @@
 pub mod Entries
 pub mod Interrupts
+pub mod Answers
 pub mod Runs
 pub mod Words

@@ -5,9 +5,11 @@ use mathlib.Core.List.{List}
 use lib.ListN.{length, drop}
 use Rattle.machine.specs.declared.State.{State}
 use Rattle.machine.specs.declared.RunAnswer.{RunAnswer}
+use Rattle.machine.specs.declared.StepAnswer.the-variants.{Nothing}
+use Rattle.machine.specs.Answer.{latest}
 use Rattle.machine.specs.Run.{RunResult, run-refusal, run}
 
--- a first run, and then a second one: counts are summed
+-- a first run, and then a second one: counts are summed, and the last step is the second's, or the first's where the second did none
 abbrev pub joined : RunAnswer → RunResult → RunResult
 joined first second =
     record {
@@ -16,6 +18,7 @@ joined first second =
         state = second .answer .state;
         steps = first .steps + second .answer .steps;
         unassigned = first .unassigned + second .answer .unassigned;
+        last = latest (first .last) (second .answer .last);
       };
       memory = second .memory;
     }
@@ -33,14 +36,20 @@ Runs-in-parts =
     → a + b ≤ length records
     → run m s records (a + b) stop ≡ followed (run m s records a stop) records b stop
 
--- A refused run answers the table's number, returns the state as given, reports no steps, and changes no byte.
+-- A refused run answers the table's number, returns the state as given, reports no steps and nothing as the last, and changes no byte.
 abbrev pub Refused-runs : Type 0
 Refused-runs =
     (m : List ℕ) (s : State) (records : List ℕ) (steps stop : ℕ)
     → (run-refusal (length m) s (length records) steps ≡ 0 → ⊥)
     → run m s records steps stop
     ≡ record {
-      answer = record { number = run-refusal (length m) s (length records) steps; state = s; steps = 0; unassigned = 0 };
+      answer = record {
+        number = run-refusal (length m) s (length records) steps;
+        state = s;
+        steps = 0;
+        unassigned = 0;
+        last = Nothing;
+      };
       memory = m;
     }
 

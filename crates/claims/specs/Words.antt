@@ -44,19 +44,19 @@ Announced-words-are-fetched =
     (v : ℕ) (again : Operand → Micro Deed) (i : Instruction) (m : Machine)
     → words v (instruction again i) m ≡ counted (λ o. words v (again o) m) i
 
+-- X's operand: its address and the machine then, and the word there, which X executes
+abbrev pub found : ℕ → Machine → Operand → Performed ℕ
+found v m o = perform v (operand Word o) m
+
+abbrev pub word-found : ℕ → Machine → Operand → ℕ
+word-found v m o = loaded Word (found v m o .machine .memory) (found v m o .value)
+
 -- the further words of a word that is executed: X takes those announced for it, and then those of the word that it executes, with
 -- one X fewer allowed; an X beyond the allowance takes none
 unfoldable pub executed : ℕ → ℕ → ℕ → Machine → ℕ
 executed zero v w m = counted (λ o. 0) (decoded w)
 executed (suc k) v w m =
-    counted (λ o. further-words (X o) + executed k v (word (found o)) (found o .machine)) (decoded w)
-  where
-    -- its operand's address, and the word there
-    found : Operand → Performed ℕ
-    found o = perform v (operand Word o) m
-
-    word : Performed ℕ → ℕ
-    word a = loaded Word (a .machine .memory) (a .value)
+    counted (λ o. further-words (X o) + executed k v (word-found v m o) (found v m o .machine)) (decoded w)
 
 -- Executing a word fetches those words.
 abbrev pub Executed-words-are-fetched : Type 0

@@ -11,10 +11,9 @@ use Rattle.isa.specs.declared.Instruction.the-variants.{Dual, Register, Xop, Tr
 use Rattle.isa.specs.Isa.{decoded}
 use Rattle.machine.specs.State.{Machine}
 use Rattle.machine.specs.Micro.{_>>=_, fetched}
-use Rattle.machine.specs.Perform.{Performed, perform, after-fetch}
-use Rattle.machine.specs.Operands.{operand}
+use Rattle.machine.specs.Perform.{after-fetch}
 use Rattle.machine.specs.Execute.{execute}
-use Rattle.claims.specs.Words.{words}
+use Rattle.claims.specs.Words.{words, found, word-found}
 use Rattle.listing.specs.Listing.{line-at, word-count, least-buffer}
 
 -- Every line fits the smallest buffer.
@@ -43,10 +42,7 @@ for-x f Unassigned = 0
 
 -- the words of what X executes, from where its operand's address is known: the word there, with one X fewer allowed
 unfoldable pub executed-by-x : ℕ → ℕ → Machine → Operand → ℕ
-executed-by-x v k m o = words v (execute k (loaded Word (found .machine .memory) (found .value))) (found .machine)
-  where
-    found : Performed ℕ
-    found = perform v (operand Word o) m
+executed-by-x v k m o = words v (execute k (word-found v m o)) (found v m o .machine)
 
 -- The instruction at the PC fetches as many words as are reported for it, its first included; where it is X, those of the word that
 -- it executes come on top. (Not more is said of them: an instruction may store over its own further words before it fetches them.)
