@@ -11,14 +11,18 @@ module tms_replay
   ! Sizes: the memory's and an image's bytes, the bytes that a line may need, a state's words, a run's counts, the
   ! numbers about a line.
   integer(c_size_t), parameter :: tms_memory_size = 16384, tms_image_size = 17408, tms_line_size = 48
-  integer, parameter :: tms_state_words = 12, tms_counts = 2, tms_line_answer = 2
+  integer, parameter :: tms_state_words = 12, tms_counts = 4, tms_line_answer = 2
 
   ! The words of a state, each a number from 0 to 65535; flags are at most 2 (1: idle, 2: the next boundary takes no sample).
   integer, parameter :: tms_wp = 1, tms_pc = 2, tms_st = 3, tms_flags = 4, tms_mask = 5, tms_direction = 6, &
       tms_latch = 7, tms_load = 8, tms_decrementer = 9, tms_reading = 10, tms_phase = 11, tms_pending = 12
 
-  ! A run's counts.
-  integer, parameter :: tms_steps = 1, tms_unassigned = 2
+  ! A run's counts: steps done, unassigned words met, the kind of the last step, and the number that goes with it.
+  integer, parameter :: tms_steps = 1, tms_unassigned = 2, tms_last = 3, tms_last_number = 4
+
+  ! The kinds of a last step.
+  integer(c_int64_t), parameter :: tms_was_nothing = 0, tms_was_reset = 1, tms_was_load = 2, tms_was_level = 3, &
+      tms_was_instruction = 4, tms_was_idle = 5, tms_was_unassigned = 6
 
   ! The numbers about a line.
   integer, parameter :: tms_length = 1, tms_words = 2

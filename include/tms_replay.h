@@ -10,7 +10,7 @@
 
    What a caller owes: no pointer is null, not even that of an empty slice; each is aligned for its
    type; what is changed overlaps nothing else of the same call; `state` has 12 elements, `counts`
-   and `answer` have 2. Nothing is kept after a call, and nothing is allocated.
+   has 4 and `answer` 2. Nothing is kept after a call, and nothing is allocated.
 
    The contracts of the functions, proved for all arguments, stand in
    crates/tms_replay/src/exported.rt, the definitions that they cite in
@@ -33,7 +33,7 @@ extern "C" {
 #define TMS_IMAGE_SIZE 17408
 #define TMS_LINE_SIZE 48
 #define TMS_STATE_WORDS 12
-#define TMS_COUNTS 2
+#define TMS_COUNTS 4
 #define TMS_LINE_ANSWER 2
 
 /* The words of a state: numbers of 16 bits, in elements of 32. */
@@ -52,10 +52,25 @@ enum {
   TMS_PENDING      /* 1: the clock's request is pending */
 };
 
-/* A run's counts. */
+/* A run's counts, and what its last step was. */
 enum {
-  TMS_STEPS,     /* steps done */
-  TMS_UNASSIGNED /* how many of them met an unassigned word */
+  TMS_STEPS,      /* steps done */
+  TMS_UNASSIGNED, /* how many of them met an unassigned word */
+  TMS_LAST,       /* the kind of the last of them, below */
+  TMS_LAST_NUMBER /* the number that goes with the kind: a level, or a PC; else 0 */
+};
+
+/* The kinds of a last step. Reset, LOAD and levels are what the pins cause; IDLE, BLWP, XOP, RTWP
+   and LREX are instructions, and the steps of a machine that is idle are idling. */
+enum {
+  TMS_WAS_NOTHING = 0,     /* no step was done */
+  TMS_WAS_RESET = 1,       /* a reset entry */
+  TMS_WAS_LOAD = 2,        /* a LOAD entry */
+  TMS_WAS_LEVEL = 3,       /* an interrupt; its number is its level, 1 to 4 */
+  TMS_WAS_INSTRUCTION = 4, /* an instruction */
+  TMS_WAS_IDLE = 5,        /* idling */
+  TMS_WAS_UNASSIGNED = 6   /* an unassigned word, also one that X led to, and the ninth X of a step;
+                              its number is the PC before the step */
 };
 
 /* The numbers about a line. */
@@ -84,8 +99,9 @@ uint16_t tms_power_up(uint8_t *memory, size_t memory_len, uint32_t state[TMS_STA
 
 /* Runs at most `steps` steps, one pin record each, and stops before a step whose PC is `stop` (an
    odd one never is). A record: bits 0 to 14 are the pins INT1 to INT15, 15 to 21 P0 to P6 (1 is
-   high), 22 to 31 the clock cycles before the step. Leaves the state after in `state` and the two
-   counts in `counts`; a refusal leaves `state` as it was and zero counts. Answers 1, 2, 3, 0. */
+   high), 22 to 31 the clock cycles before the step. Leaves the state after in `state`, and in
+   `counts` the steps done, the unassigned words met and what the last step was; a refusal leaves
+   `state` as it was and four zeros. Answers 1, 2, 3, 0. */
 uint16_t tms_run(uint8_t *memory, size_t memory_len, uint32_t state[TMS_STATE_WORDS],
                  const uint32_t *records, size_t records_len, size_t steps, uint16_t stop,
                  uint64_t counts[TMS_COUNTS]);

@@ -1,5 +1,5 @@
-/* Powers up on a memory with a reset vector and a small program, lists it, runs it, carries the
-   machine through an image, runs on, and is refused in several ways. */
+/* Powers up on a memory with vectors and a small program, lists it, runs it, carries the machine
+   through an image, runs on, is interrupted, and is refused in several ways. */
 
 #include <inttypes.h>
 #include <stdio.h>
@@ -21,11 +21,25 @@ static void put(uint16_t at, uint16_t word) {
   memory[at + 1] = word & 0xFF;
 }
 
+/* The last step: a level's number is decimal, a PC hexadecimal. */
+static void last(void) {
+  switch (counts[TMS_LAST]) {
+  case TMS_WAS_NOTHING: puts("none"); break;
+  case TMS_WAS_RESET: puts("reset"); break;
+  case TMS_WAS_LOAD: puts("load"); break;
+  case TMS_WAS_LEVEL: printf("level%" PRIu64 "\n", counts[TMS_LAST_NUMBER]); break;
+  case TMS_WAS_INSTRUCTION: puts("run"); break;
+  case TMS_WAS_IDLE: puts("idle"); break;
+  case TMS_WAS_UNASSIGNED: printf("word at %04" PRIX64 "\n", counts[TMS_LAST_NUMBER]); break;
+  }
+}
+
 static void line(uint16_t answer) {
   printf("answer %u steps %" PRIu64 " unassigned %" PRIu64 " pc %04" PRIX32 " wp %04" PRIX32
-         " st %04" PRIX32 "\n",
+         " st %04" PRIX32 " ",
          answer, counts[TMS_STEPS], counts[TMS_UNASSIGNED], state[TMS_PC], state[TMS_WP],
          state[TMS_ST]);
+  last();
 }
 
 static uint16_t run(size_t steps) {
@@ -33,9 +47,12 @@ static uint16_t run(size_t steps) {
 }
 
 int main(void) {
-  /* The reset vector, then: LI R1,7FFFh; LI R2,1; A R1,R2; an unassigned word. */
+  /* The vectors of reset and of level 1, then: LI R1,7FFFh; LI R2,1; A R1,R2; an unassigned
+     word. */
   put(0x0000, 0x0300);
   put(0x0002, 0x0100);
+  put(0x0004, 0x0340);
+  put(0x0006, 0x0200);
   put(0x0100, 0x0201);
   put(0x0102, 0x7FFF);
   put(0x0104, 0x0202);
@@ -62,6 +79,15 @@ int main(void) {
   uint16_t read = tms_read_image(image, sizeof image, memory, sizeof memory, state, &block);
   printf("wrote %u read %u block %" PRIu32 "\n", wrote, read, block);
   line(run(2));
+
+  /* Request 3 is enabled, its pin is low and the status's mask admits level 1: an entry. A run of
+     no steps has no last one. */
+  state[TMS_MASK] = 1 << 3;
+  state[TMS_ST] |= 1;
+  records[0] &= ~(1u << 2);
+  line(run(1));
+  records[0] |= 1u << 2;
+  line(run(0));
 
   /* Refusals: too few records; both flags; a number that does not fit its word, which stays. */
   line(run(9));

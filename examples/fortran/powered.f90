@@ -103,7 +103,34 @@ contains
 
   ! The words of a state are never negative, so they print as they are.
   subroutine line()
-    print '(a, i0, a, i0, a, i0, a, i0, a, i0, a, i0)', 'answer ', answer, ' steps ', counts(tms_steps), &
-        ' unassigned ', counts(tms_unassigned), ' pc ', state(tms_pc), ' wp ', state(tms_wp), ' st ', state(tms_st)
+    print '(a, i0, a, i0, a, i0, a, i0, a, i0, a, i0, a)', 'answer ', answer, ' steps ', counts(tms_steps), &
+        ' unassigned ', counts(tms_unassigned), ' pc ', state(tms_pc), ' wp ', state(tms_wp), ' st ', state(tms_st), &
+        last()
   end subroutine
+
+  ! The last step, and the number that goes with it, both as text.
+  function last()
+    character(len=:), allocatable :: last
+    character(len=20) :: number
+
+    write (number, '(i0)') counts(tms_last_number)
+    select case (counts(tms_last))
+    case (tms_was_nothing)
+      last = ' none'
+    case (tms_was_reset)
+      last = ' reset'
+    case (tms_was_load)
+      last = ' load'
+    case (tms_was_level)
+      last = ' level' // trim(number)
+    case (tms_was_instruction)
+      last = ' run'
+    case (tms_was_idle)
+      last = ' idle'
+    case (tms_was_unassigned)
+      last = ' word at ' // trim(number)
+    case default
+      error stop
+    end select
+  end function
 end program

@@ -15,6 +15,7 @@ use Rattle.memory.specs.Memory.{size}
 use Rattle.machine.specs.declared.State.{State}
 use Rattle.machine.specs.State.{well-formed}
 use Rattle.machine.specs.Laws.{Words}
+use Rattle.machine.specs.Answer.{number, value}
 use Rattle.machine.specs.Run as Run
 use Rattle.image_blocks.specs.Image as Image
 use Rattle.image.specs.Calls as Calls
@@ -101,26 +102,18 @@ state-words w = by-test (fits w) refl
 -- a run whose number is not 0 was refused
 pub run-refused :
     (m : List ℕ) (s : State) (records : List ℕ) (steps stop : ℕ) → (Run.run m s records steps stop .answer .number ≡ 0 → ⊥)
-    → Run.run m s records steps stop
-    ≡ record {
-      answer = record { number = Run.run-refusal (length m) s (length records) steps; state = s; steps = 0; unassigned = 0 };
-      memory = m;
-    }
+    → Run.run m s records steps stop ≡ Run.refused (Run.run-refusal (length m) s (length records) steps) s m
 unfolding Run.run
 run-refused m s records steps stop ne = by-test (eqb (Run.run-refusal (length m) s (length records) steps) 0) refl
   where
     by-test :
         (t : Bool) → eqb (Run.run-refusal (length m) s (length records) steps) 0 ≡ t
-        → Run.run m s records steps stop
-        ≡ record {
-          answer = record { number = Run.run-refusal (length m) s (length records) steps; state = s; steps = 0; unassigned = 0 };
-          memory = m;
-        }
+        → Run.run m s records steps stop ≡ Run.refused (Run.run-refusal (length m) s (length records) steps) s m
     by-test true e = absurd (ne (rw e))
     by-test false e = rw e
 
 pub refused-runs : Refused-runs
-unfolding run
+unfolding run number value
 refused-runs m w records steps stop ne =
     let r = run-refused m (state-of w) records steps stop ne in
     (rw (ne-eqb (Run.run m (state-of w) records steps stop .answer .number) 0 ne), rw r, rw r)

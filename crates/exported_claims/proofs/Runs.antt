@@ -20,6 +20,7 @@ use Rattle.book_claim.proofs.Claim.{open-entries-are-kept}
 use Rattle.state_array.specs.Arrays.{state-of}
 use Rattle.tms_replay.specs.Exported.{Ran, run}
 use Rattle.exported_claims.specs.Runs.{Observed, Linked, seen, as-seen, Open-entries-are-kept-by-tms-run}
+use Rattle.exported_claims.proofs.Answers.{numbers-tell-answers-apart}
 use Rattle.exported_claims.proofs.Arrays.{state-of-its-words, state-words, run-refused}
 
 -- fields stay numbers of 16 bits in a run
@@ -69,7 +70,7 @@ chained w m (x ∷ xs) l =
       subst
           (λ (r : Ran). record { answer = as-seen c r .answer; memory = r .memory } ≡ Run.run m (state-of w) (c .records) (c .steps) (c .stop))
           (sym (l .0))
-          (rw (returned m w (c .records) (c .steps) (c .stop))),
+          (rw (returned m w (c .records) (c .steps) (c .stop), numbers-tell-answers-apart)),
       chained (x .ran .state) (x .ran .memory) xs (l .1),
     )
 

@@ -20,12 +20,12 @@ State-of-its-words = (s : State) → Words s → state-of (Image.fields s) ≡ s
 abbrev pub Words-of-their-state : Type 0
 Words-of-their-state = (w : List ℕ) → length w ≡ state-words → fits w ≡ true → Image.fields (state-of w) ≡ w
 
--- A refused run leaves the array bit for bit, the memory as it was, and zero counts.
+-- A refused run leaves the array bit for bit, the memory as it was, and four zeros as counts.
 abbrev pub Refused-runs : Type 0
 Refused-runs =
     (m w records : List ℕ) (steps stop : ℕ)
     → (run m w records steps stop .number ≡ 0 → ⊥)
-    → (run m w records steps stop .state ≡ w) × (run m w records steps stop .memory ≡ m) × (run m w records steps stop .counts ≡ 0 ∷ 0 ∷ [])
+    → (run m w records steps stop .state ≡ w) × (run m w records steps stop .memory ≡ m) × (run m w records steps stop .counts ≡ 0 ∷ 0 ∷ 0 ∷ 0 ∷ [])
 
 -- A number that does not fit is refused like a state that is not well formed, in its place in the order.
 abbrev pub Unfit-runs : Type 0

@@ -1,6 +1,5 @@
 -- Demand 3 for any list of calls of `tms_run`.
 use Prim.Native.Nat.{ℕ}
-use mathlib.Core.Path.{_≡_}
 use mathlib.Core.List.{List, [], _∷_}
 use lib.ListN.{getD}
 use Rattle.machine.specs.State.{at}
@@ -8,6 +7,7 @@ use Rattle.book.specs.Book.{Call, all-moments}
 use Rattle.book_claim.specs.Claim.{Seen, calls, Each, Respected, Kept, Calls-kept}
 use Rattle.state_array.specs.Arrays.{state-of}
 use Rattle.tms_replay.specs.Exported.{Ran, Promised}
+use Rattle.exported_claims.specs.Answers.{answer-of}
 
 -- what was observed of a call: its arguments, and what it answered and left
 pub record Observed : Type 0 where
@@ -21,12 +21,18 @@ Linked w m (x ∷ xs) =
     Promised m w (x .call .records) (x .call .steps) (x .call .stop) (x .ran .number) (x .ran .memory) (x .ran .state) (x .ran .counts)
     × Linked (x .ran .state) (x .ran .memory) xs
 
--- the same as a call of run: the state of the array, and the two counts
+-- the same as a call of run: the state of the array, the two counts, and the answer that the two numbers after them stand for
 abbrev pub as-seen : Call → Ran → Seen
 as-seen c r =
     record {
       call = c;
-      answer = record { number = r .number; state = state-of (r .state); steps = getD (r .counts) 0 0; unassigned = getD (r .counts) 1 0 };
+      answer = record {
+        number = r .number;
+        state = state-of (r .state);
+        steps = getD (r .counts) 0 0;
+        unassigned = getD (r .counts) 1 0;
+        last = answer-of (getD (r .counts) 2 0) (getD (r .counts) 3 0);
+      };
       memory = r .memory;
     }
 

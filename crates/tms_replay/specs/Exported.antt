@@ -1,10 +1,11 @@
--- The calls as C, Fortran and Rust see them: a state is an array of twelve numbers, counts are two numbers, so are a line's
--- length and words, a block is one.
+-- The calls as C, Fortran and Rust see them: a state is an array of twelve numbers, a run's counts are four, a line's length and words
+-- two, a block is one.
 use Prim.Native.Nat.{ℕ}
 use mathlib.Core.Path.{_≡_}
 use mathlib.Core.List.{List, [], _∷_}
 use lib.Dec.{eqb}
 use Rattle.bits.specs.Bits.{if_then_else_}
+use Rattle.machine.specs.Answer as Answer
 use Rattle.machine.specs.Run as Run
 use Rattle.image_blocks.specs.Image as Image
 use Rattle.image.specs.Calls as Calls
@@ -32,15 +33,16 @@ pub record Ran : Type 0 where
   pub state : List ℕ
   pub counts : List ℕ
 
--- what is handed on of a run: the state after, or on a refusal the array as given; the steps done and how many of them met an
--- unassigned word
+-- what is handed on of a run: the state after, or on a refusal the array as given; the steps done, how many of them met an unassigned
+-- word, and what the last one answered
 abbrev pub handed : List ℕ → Run.RunResult → Ran
 handed w r =
     record {
       number = r .answer .number;
       memory = r .memory;
       state = if eqb (r .answer .number) 0 then Image.fields (r .answer .state) else w;
-      counts = r .answer .steps ∷ r .answer .unassigned ∷ [];
+      counts =
+          r .answer .steps ∷ r .answer .unassigned ∷ Answer.number (r .answer .last) ∷ Answer.value (r .answer .last) ∷ [];
     }
 
 -- run, on the state of the array

@@ -6,8 +6,8 @@ use state_array::STATE_WORDS;
 use state_array::state_of;
 use state_array::words_of;
 
-// A run's counts: the steps done, and how many of them met an unassigned word.
-pub const COUNTS: usize = 2;
+// A run's counts: the steps done, how many of them met an unassigned word, and two numbers for what the last one answered.
+pub const COUNTS: usize = 4;
 
 // The answer about a line: its length, and how many words its instruction takes.
 pub const LINE_ANSWER: usize = 2;
@@ -38,7 +38,13 @@ pub extern "C" fn tms_run(
 {
     let before = state_of(*state);
     let answer = super::run(memory, before, records, steps, stop);
-    *counts = [answer.steps as u64, answer.unassigned as u64];
+    let last = answer.last;
+    *counts = [
+        answer.steps as u64,
+        answer.unassigned as u64,
+        step_answers::number(last) as u64,
+        step_answers::value(last) as u64,
+    ];
     if answer.number != 0 {
         return answer.number;
     }

@@ -8,16 +8,14 @@ use Rattle.tms_replay.proofs.exported.tms_run.Tie as tie
 returns : tie.Need-returns
 unfolding run
 returns c =
-    let words = c .before .before .before .before .before .before .before .state-of .ensures in
-    let said = c .before .before .before .before .before .run .ensures in
-    rw (← words, ← said, ne-eqb _ _ (c .if1 .taken))
+    let ran = c .before .before .before .before .before .before .before in
+    rw (← ran .before .before .state-of .ensures, ← ran .run .ensures, ne-eqb _ _ (c .if1 .taken), c .before .before .before .before .number .ensures, c .before .before .before .value .ensures)
 
 returns-2 : tie.Need-returns-2
 unfolding run
 returns-2 c =
-    let words = c .before .before .before .before .before .before .before .before .state-of .ensures in
-    let said = c .before .before .before .before .before .before .run .ensures in
-    rw (← words, ← said, c .before .if1 .left, c .words-of .ensures)
+    let ran = c .before .before .before .before .before .before .before .before in
+    rw (← ran .before .before .state-of .ensures, ← ran .run .ensures, c .before .if1 .left, c .words-of .ensures, c .before .before .before .before .before .number .ensures, c .before .before .before .before .value .ensures)
 
 pub tms-run-spec : {M : Type 1} → statement M
 tms-run-spec =
@@ -25,6 +23,10 @@ tms-run-spec =
     (tie.spec
     (λ c κs. search needs)
     (λ c κs. search needs)
+    (λ c κs. search needs)
+    (λ c. search needs)
+    (λ c κs. search needs)
+    (λ c. search needs)
     (λ c. search needs)
     returns
     (λ c κs. search needs)
