@@ -7,6 +7,8 @@ use lib.Dec.{eqb}
 use Rattle.bits.specs.Bits.{if_then_else_}
 use Rattle.memory.specs.Memory.{size}
 use Rattle.machine.specs.declared.State.{State}
+use Rattle.machine.specs.declared.StepAnswer.{StepAnswer}
+use Rattle.machine.specs.declared.StepAnswer.the-variants.{Nothing}
 use Rattle.machine.specs.Run as Run
 use Rattle.image.specs.Calls as Calls
 use Rattle.replay_files.specs.Pins as Pins
@@ -18,13 +20,13 @@ pub record Result : Type 0 where
   pub line : List ℕ
   pub image : List ℕ
 
--- the line of a number, counts and a state
-abbrev pub line : ℕ → ℕ → ℕ → State → List ℕ
-line number steps unassigned s = Line.text number steps unassigned (s .pc) (s .wp) (s .st)
+-- the line of a number, counts, a state and the last step's answer
+abbrev pub line : ℕ → ℕ → ℕ → State → StepAnswer → List ℕ
+line number steps unassigned s last = Line.text number steps unassigned (s .pc) (s .wp) (s .st) last
 
--- On a refusal no image is written, and the line shows the number and the returned state.
+-- On a refusal no image is written, and the line has the number, zero counts, the returned state and `none`.
 abbrev pub refused : ℕ → State → List ℕ → Result
-refused number s after = record { number = number; line = line number 0 0 s; image = after }
+refused number s after = record { number = number; line = line number 0 0 s Nothing; image = after }
 
 -- the run on all records of the pin file, up to its stop address
 abbrev pub ran : List ℕ → State → List ℕ → Run.RunResult
@@ -34,7 +36,7 @@ ran m s pins = Run.run m s (Pins.records pins) (length (Pins.records pins)) (Pin
 abbrev pub finished : Run.RunResult → Calls.WriteResult → List ℕ → Result
 finished r w after =
     if not (eqb (w .answer .number) 0) then refused (w .answer .number) (w .answer .state) after
-    else record { number = 0; line = line 0 (r .answer .steps) (r .answer .unassigned) (r .answer .state); image = w .image }
+    else record { number = 0; line = line 0 (r .answer .steps) (r .answer .unassigned) (r .answer .state) (r .answer .last); image = w .image }
 
 abbrev pub continued : Run.RunResult → List ℕ → Result
 continued r after =

@@ -10,6 +10,7 @@ ghost use Rattle.replay_call.specs.Replay as Replay;
 use image::WriteAnswer;
 use machine::RunAnswer;
 use machine::State;
+use machine::StepAnswer;
 use replay_files::line;
 use replay_files::pins;
 use text::Text;
@@ -20,13 +21,21 @@ pub struct Replayed {
     pub text: Text,
 }
 
-// The line of a number, counts and a state.
-fn told(number: u16, steps: usize, unassigned: usize, state: State) -> Replayed
+// The line of a number, counts, a state and the last step's answer.
+fn told(number: u16, steps: usize, unassigned: usize, state: State, last: StepAnswer) -> Replayed
     ensures { λ r. ⌜ r .number ≡ number ⌝ }
     ensures { λ r. ⌜ Counts (r .text .length) (r .text .bytes) ⌝ }
-    ensures { λ r. ⌜ r .text ≡ Texts.appended Texts.empty (Replay.line number steps unassigned state) ⌝ }
+    ensures { λ r. ⌜ r .text ≡ Texts.appended Texts.empty (Replay.line number steps unassigned state last) ⌝ }
 {
-    let text = line::line(number, steps, unassigned, state.pc, state.wp, state.st);
+    let text = line::line(
+        number,
+        steps,
+        unassigned,
+        state.pc,
+        state.wp,
+        state.st,
+        last,
+    );
     Replayed { number, text }
 }
 
@@ -62,17 +71,18 @@ pub fn replay(image: &[u8], file: &[u8], after: &mut [u8; image_blocks::IMAGE_SI
     let read = tms_replay::read_image(image, &mut lent);
     let start = read.state;
     if read.number != 0 {
-        return told(read.number, 0, 0, start);
+        return told(read.number, 0, 0, start, StepAnswer::Nothing);
     }
     let answer = run_on(start, file, &mut lent);
     let end = answer.state;
     if answer.number != 0 {
-        return told(answer.number, 0, 0, end);
+        return told(answer.number, 0, 0, end, StepAnswer::Nothing);
     }
     let written = write_on(end, &lent, after);
     let kept = written.state;
     if written.number != 0 {
-        return told(written.number, 0, 0, kept);
+        return told(written.number, 0, 0, kept, StepAnswer::Nothing);
     }
-    told(0, answer.steps, answer.unassigned, end)
+    let last = answer.last;
+    told(0, answer.steps, answer.unassigned, end, last)
 }

@@ -9,6 +9,8 @@ use lib.ListN.{length, replicate}
 use lib.Dec.{eqb}
 use Rattle.memory.specs.Memory.{size}
 use Rattle.machine.specs.declared.State.{State}
+use Rattle.machine.specs.declared.StepAnswer.{StepAnswer}
+use Rattle.machine.specs.declared.StepAnswer.the-variants.{Unassigned}
 use Rattle.machine.specs.State.{well-formed}
 use Rattle.machine.specs.Laws.{Words}
 use Rattle.machine.specs.Run as Run
@@ -41,13 +43,13 @@ any-memory m image pins after h = same-replay m (replicate size 0) image pins af
 
 -- a written image is replayed by its run
 replayed :
-    (s e : State) (m ms pins after : List ℕ) (steps unassigned : ℕ) → Words s → well-formed s ≡ true → length m ≡ size
+    (s e : State) (m ms pins after : List ℕ) (steps unassigned : ℕ) (last : StepAnswer) → Words s → well-formed s ≡ true → length m ≡ size
     → Run.run m s (Pins.records pins) (length (Pins.records pins)) (Pins.stop pins)
-    ≡ record { answer = record { number = 0; state = e; steps = steps; unassigned = unassigned }; memory = ms }
+    ≡ record { answer = record { number = 0; state = e; steps = steps; unassigned = unassigned; last = last }; memory = ms }
     → well-formed e ≡ true → length ms ≡ size → length after ≡ Image.image-size
-    → replay (Image.image s m) pins after ≡ record { number = 0; line = line 0 steps unassigned e; image = Image.image e ms }
+    → replay (Image.image s m) pins after ≡ record { number = 0; line = line 0 steps unassigned e last; image = Image.image e ms }
 unfolding replay-in
-replayed s e m ms pins after steps unassigned w f h r g k a =
+replayed s e m ms pins after steps unassigned last w f h r g k a =
     rw (read-written s m (replicate size 0) w f h refl, r, writes e ms after g k a)
 
 words : Words Claims.start
@@ -71,7 +73,7 @@ words =
 
 run :
     Run.run Claims.memory Claims.start (Pins.records Claims.pins) (length (Pins.records Claims.pins)) (Pins.stop Claims.pins)
-    ≡ record { answer = record { number = 0; state = Claims.end; steps = 2; unassigned = 1 }; memory = Claims.memory-after }
+    ≡ record { answer = record { number = 0; state = Claims.end; steps = 2; unassigned = 1; last = Unassigned 0x0102 }; memory = Claims.memory-after }
 unfolding Cases.every Run.run Pins.records Pins.records-in Pins.words Pins.word Pins.stop Pins.stop-in
 run = refl
 
@@ -91,11 +93,11 @@ formed-after : well-formed Claims.end ≡ true
 unfolding Cases.every
 formed-after = refl
 
-spelled : line 0 2 1 Claims.end ≡ Claims.line
-unfolding Line.text Line.counts Line.registers Texts.ascii Texts.decimal Texts.decimal-in Texts.hex Texts.glyph
+spelled : line 0 2 1 Claims.end (Unassigned 0x0102) ≡ Claims.line
+unfolding Line.text Line.counts Line.registers Line.word Texts.ascii Texts.decimal Texts.decimal-in Texts.hex Texts.glyph
 spelled = refl
 
 pub example-line : Claims.Example-line
 example-line after a =
     rw (← spelled)
-    (replayed Claims.start Claims.end Claims.memory Claims.memory-after Claims.pins after 2 1 words formed sized run formed-after sized-after a)
+    (replayed Claims.start Claims.end Claims.memory Claims.memory-after Claims.pins after 2 1 (Unassigned 0x0102) words formed sized run formed-after sized-after a)

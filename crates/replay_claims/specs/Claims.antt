@@ -34,7 +34,7 @@ abbrev pub pins : List ℕ
 pins = 0x00 ∷ 0x00 ∷ 0x00 ∷ 0x01 ∷ 0x00 ∷ 0x3F ∷ 0xFF ∷ 0xFF ∷ 0x00 ∷ 0x3F ∷ 0xFF ∷ 0xFF ∷ []
 
 abbrev pub line : List ℕ
-line = ascii "answer 0 steps 2 unassigned 1 pc 0104 wp 0300 st 8800\n"
+line = ascii "answer 0 steps 2 unassigned 1 pc 0104 wp 0300 st 8800 word\n"
 
 -- what the machine is after it: R2, at 0304h, is 8000h
 abbrev pub end : State

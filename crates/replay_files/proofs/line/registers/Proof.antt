@@ -10,43 +10,34 @@ use Rattle.replay_files.proofs.line.registers.Tie as tie
 
 pc-requires : tie.Need-append-register-requires
 unfolding ascii hex registers
-pc-requires c κs = room-less (c .before .args .text) 8 25 (c .before .pre) (omega arith)
+pc-requires c κs = room-less (c .before .args .text) 8 24 (c .before .pre) (omega arith)
 
 wp-requires : tie.Need-append-register-requires-2
 unfolding ascii hex registers
 wp-requires c κs =
     let start = c .before .before .before in
-    rw (c .before .append-register .ensures) (room-after _ _ 8 (room-less (start .args .text) 16 25 (start .pre) (omega arith)))
+    rw (c .before .append-register .ensures) (room-after _ _ 8 (room-less (start .args .text) 16 24 (start .pre) (omega arith)))
 
 st-requires : tie.Need-append-register-requires-3
 unfolding ascii hex registers
 st-requires c κs =
-    let start = c .before .before .before .before .before in
     rw (c .before .append-register2 .ensures, c .before .before .before .append-register .ensures)
-    (room-after _ _ 8 (room-after _ _ 16 (room-less (start .args .text) 24 25 (start .pre) (omega arith))))
-
-feed-requires : tie.Need-append-requires
-unfolding ascii hex registers
-feed-requires c κs =
-    rw (c .before .append-register3 .ensures, c .before .before .before .append-register2 .ensures, c .before .before .before .before .before .append-register .ensures)
-    (room-after _ _ 1 (room-after _ _ 9 (room-after _ _ 17 (c .before .before .before .before .before .before .before .pre))))
+    (room-after _ _ 8 (room-after _ _ 16 (c .before .before .before .before .before .pre)))
 
 returns : tie.Need-returns
 unfolding ascii hex registers
 returns c =
-    let start = c .before .before .before .before .before .before .before .before in
+    let start = c .before .before .before .before .before .before in
     let a = start .args in
     let one = ascii " pc " ++ hex (a .pc) in
     let two = ascii " wp " ++ hex (a .wp) in
     let three = ascii " st " ++ hex (a .st) in
     rw (
-      c .append .ensures,
-      c .before .before .append-register3 .ensures,
-      c .before .before .before .before .append-register2 .ensures,
-      c .before .before .before .before .before .before .append-register .ensures,
-      appended-twice (a .text) one two (room-less (a .text) 16 25 (start .pre) (omega arith)),
-      appended-twice (a .text) (one ++ two) three (room-less (a .text) 24 25 (start .pre) (omega arith)),
-      appended-twice (a .text) (one ++ two ++ three) (ascii "\n") (start .pre),
+      c .append-register3 .ensures,
+      c .before .before .append-register2 .ensures,
+      c .before .before .before .before .append-register .ensures,
+      appended-twice (a .text) one two (room-less (a .text) 16 24 (start .pre) (omega arith)),
+      appended-twice (a .text) (one ++ two) three (start .pre),
     )
 
 pub registers-spec : {M : Type 1} → statement M
@@ -59,6 +50,4 @@ registers-spec =
     wp-requires
     (λ c. search needs)
     st-requires
-    (λ c. search needs)
-    feed-requires
     returns)
