@@ -33,6 +33,9 @@ extern "C" {
 /// A state's twelve words, in the order of an image's block 0, each in an element of 32 bits.
 pub type Words = [u32; 12];
 
+/// A run's four counts.
+pub type Counts = [u64; 4];
+
 pub fn words(state: &State) -> Words {
     let psi = &state.psi;
     [
@@ -73,14 +76,14 @@ pub fn state(words: &Words) -> State {
     }
 }
 
-/// The number, and in `counts` the steps done and the unassigned words met.
+/// The number, and in `counts` the steps done, the unassigned words met, and what the last step was.
 pub fn run(
     memory: &mut [u8],
     state: &mut Words,
     records: &[u32],
     steps: usize,
     stop: u16,
-    counts: &mut [u64; 2],
+    counts: &mut Counts,
 ) -> u16 {
     // SAFETY: each pointer is that of a live slice of the length beside it, and the slices that are
     // changed are borrowed as `&mut`, so none overlaps another.

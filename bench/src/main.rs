@@ -41,7 +41,7 @@ fn steps(of: &Loop) -> Times {
     let mut left = STEPS;
     while left > 0 {
         let portion = left.min(PORTION);
-        let mut counts = [0; 2];
+        let mut counts = library::Counts::default();
         let start = Instant::now();
         let number = library::run(&mut ours, &mut words, &of.records, portion, 1, &mut counts);
         times.library += start.elapsed();
@@ -50,8 +50,12 @@ fn steps(of: &Loop) -> Times {
         times.oracle += start.elapsed();
         state = answer.state;
         assert_eq!((number, answer.number), (0, 0));
-        assert_eq!(counts, [portion as u64, 0]);
         assert_eq!((answer.steps, answer.unassigned), (portion, 0));
+        let last = answer.last;
+        assert_eq!(
+            counts,
+            [portion as u64, 0, last.kind().into(), last.number().into()]
+        );
         assert_eq!(library::state(&words), state);
         assert!(ours == theirs, "the memories differ");
         if let Some(at) = of.ticks {

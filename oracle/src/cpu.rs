@@ -20,14 +20,57 @@ use status::*;
 /// What a step was.
 #[derive(Clone, Copy, Debug, PartialEq, Eq)]
 pub enum Step {
+    /// No step was done. Only a call answers this.
+    Nothing,
     Reset,
     Load,
     /// An interrupt level, 1 to 4.
     Level(u16),
     Instruction,
-    /// An instruction word, fetched or reached through X, that is unassigned.
-    Unassigned,
     Idle,
+    /// An instruction word, fetched or reached through X, that is unassigned,
+    /// with the PC before the step.
+    Unassigned(u16),
+}
+
+impl Step {
+    /// The kind's number.
+    pub fn kind(self) -> u16 {
+        match self {
+            Step::Nothing => 0,
+            Step::Reset => 1,
+            Step::Load => 2,
+            Step::Level(_) => 3,
+            Step::Instruction => 4,
+            Step::Idle => 5,
+            Step::Unassigned(_) => 6,
+        }
+    }
+
+    /// The number that goes with the kind: a level or a PC, else 0.
+    pub fn number(self) -> u16 {
+        match self {
+            Step::Level(number) | Step::Unassigned(number) => number,
+            _ => 0,
+        }
+    }
+
+    /// The word for it in the program's line.
+    pub fn name(self) -> String {
+        match self {
+            Step::Nothing => "none".into(),
+            Step::Reset => "reset".into(),
+            Step::Load => "load".into(),
+            Step::Level(level) => format!("level{level}"),
+            Step::Instruction => "run".into(),
+            Step::Idle => "idle".into(),
+            Step::Unassigned(_) => "word".into(),
+        }
+    }
+
+    pub fn is_unassigned(self) -> bool {
+        matches!(self, Step::Unassigned(_))
+    }
 }
 
 /// How many X one step executes; the next one is read as an unassigned word.
@@ -146,15 +189,17 @@ impl<'m> Machine<'m> {
             return Step::Idle;
         }
         self.no_sample = false;
+        let before = self.pc;
         let word = self.fetch();
-        self.execute_fetched(word)
+        self.execute_fetched(word, before)
     }
 
-    /// Executes a word that was fetched: the PC is already after it.
-    pub fn execute_fetched(&mut self, word: u16) -> Step {
+    /// Executes a word that was fetched: the PC is already after it, and was
+    /// `before` before the step.
+    pub fn execute_fetched(&mut self, word: u16, before: u16) -> Step {
         match self.execute(word, X_ALLOWANCE) {
             Executed::Assigned => Step::Instruction,
-            Executed::Unassigned => Step::Unassigned,
+            Executed::Unassigned => Step::Unassigned(before),
         }
     }
 

@@ -10,6 +10,7 @@ mod programs;
 mod runs;
 mod steps;
 
+use crate::cpu::Step;
 use crate::psi::Psi;
 use crate::seeds::Seeds;
 use crate::{State, MEMORY_SIZE};
@@ -45,6 +46,11 @@ impl Sum {
         for word in words {
             self.mix(u32::from(word));
         }
+    }
+
+    /// What a step was: the kind's number, then the number that goes with it.
+    fn mix_step(&mut self, step: Step) {
+        self.mix_words([step.kind(), step.number()]);
     }
 
     fn mix_psi(&mut self, psi: &Psi) {

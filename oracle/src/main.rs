@@ -103,8 +103,14 @@ fn write_samples(folder: &Path) -> Result<(), String> {
 
 fn line(answer: &Answer) -> String {
     format!(
-        "answer {} steps {} unassigned {} pc {:04X} wp {:04X} st {:04X}",
-        answer.number, answer.steps, answer.unassigned, answer.state.pc, answer.state.wp, answer.state.st
+        "answer {} steps {} unassigned {} pc {:04X} wp {:04X} st {:04X} {}",
+        answer.number,
+        answer.steps,
+        answer.unassigned,
+        answer.state.pc,
+        answer.state.wp,
+        answer.state.st,
+        answer.last.name()
     )
 }
 

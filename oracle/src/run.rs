@@ -30,18 +30,19 @@ pub fn run(memory: &mut [u8], state: State, records: &[u32], steps: usize, stop:
     let mut machine = Machine::new(memory, state);
     let mut done = 0;
     let mut unassigned = 0;
+    let mut last = Step::Nothing;
     for &record in records {
         if machine.pc == stop {
             break;
         }
-        if machine.step(record) == Step::Unassigned {
-            unassigned += 1;
-        }
+        last = machine.step(record);
+        unassigned += usize::from(last.is_unassigned());
         done += 1;
     }
     Answer {
         steps: done,
         unassigned,
+        last,
         ..Answer::accepted(machine.state())
     }
 }

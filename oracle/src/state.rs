@@ -1,5 +1,6 @@
 //! The state outside the memory, and the answer of a call.
 
+use crate::cpu::Step;
 use crate::psi::Psi;
 
 /// Flag weights of [`State::flags`].
@@ -46,6 +47,8 @@ pub struct Answer {
     pub steps: usize,
     /// How many of them met an unassigned word.
     pub unassigned: usize,
+    /// What the last of them was; nothing if there was none.
+    pub last: Step,
     pub state: State,
 }
 
@@ -75,6 +78,7 @@ impl Answer {
             block: 0,
             steps: 0,
             unassigned: 0,
+            last: Step::Nothing,
             state,
         }
     }

@@ -1,7 +1,7 @@
 //! Images: layout, round trips, refusals in order.
 mod common;
 use common::*;
-use oracle::{read_image, write_image, Answer, Psi, State, IMAGE_SIZE, MEMORY_SIZE};
+use oracle::{read_image, write_image, Answer, Psi, State, Step, IMAGE_SIZE, MEMORY_SIZE};
 
 fn refused(number: u16, block: u16, state: State) -> Answer {
     Answer {
@@ -9,6 +9,7 @@ fn refused(number: u16, block: u16, state: State) -> Answer {
         block,
         steps: 0,
         unassigned: 0,
+        last: Step::Nothing,
         state,
     }
 }

@@ -86,7 +86,7 @@ fn the_example_line() {
     let out = folder.file("out");
     assert_eq!(
         replay(&image, &pins, &out),
-        ok("answer 0 steps 2 unassigned 1 pc 0104 wp 0300 st 8800")
+        ok("answer 0 steps 2 unassigned 1 pc 0104 wp 0300 st 8800 word")
     );
     let mut memory = vec![0; MEMORY_SIZE];
     let answer = read_image(&fs::read(&out).unwrap(), &mut memory);
@@ -121,24 +121,24 @@ fn pin_files() {
     for bytes in [&[][..], &[1], &[0, 0, 1]] {
         assert_eq!(
             try_pins(bytes),
-            "answer 0 steps 0 unassigned 0 pc 0100 wp 0300 st 0000\n"
+            "answer 0 steps 0 unassigned 0 pc 0100 wp 0300 st 0000 none\n"
         );
     }
     // Only the low 16 bits of the first word are the stop address.
     assert_eq!(
         try_pins(&pins(&[0xABCD_0102, QUIET, QUIET])),
-        "answer 0 steps 1 unassigned 0 pc 0102 wp 0300 st 8800\n"
+        "answer 0 steps 1 unassigned 0 pc 0102 wp 0300 st 8800 run\n"
     );
     assert_eq!(
         try_pins(&pins(&[0x0100, QUIET, QUIET])),
-        "answer 0 steps 0 unassigned 0 pc 0100 wp 0300 st 0000\n"
+        "answer 0 steps 0 unassigned 0 pc 0100 wp 0300 st 0000 none\n"
     );
     // An incomplete last word is ignored.
     let mut bytes = pins(&[1, QUIET, QUIET]);
     bytes.pop();
     assert_eq!(
         try_pins(&bytes),
-        "answer 0 steps 1 unassigned 0 pc 0102 wp 0300 st 8800\n"
+        "answer 0 steps 1 unassigned 0 pc 0102 wp 0300 st 8800 run\n"
     );
     // At most 16383 records; what lies beyond is ignored.
     let words: Vec<u32> = std::iter::once(1)
@@ -156,17 +156,43 @@ fn pin_files() {
 }
 
 #[test]
+fn the_last_word() {
+    let folder = Folder::new("last-word");
+    let out = folder.file("out");
+    let mut b = Bench::with(&[0x0340, 0x1000]);
+    b.state.st = 0x000F;
+    b.state.psi.control_and_masks = 0xFFFE;
+    let image = folder.put("image", &image_of(&b));
+    let word_after = |records: &[u32]| {
+        let pins = folder.put("pins", &pins(&[&[1], records].concat()));
+        let (code, line, error) = replay(&image, &pins, &out);
+        assert_eq!((code, error.as_str()), (Some(0), ""));
+        let (_, word) = line.strip_suffix('\n').unwrap().rsplit_once(' ').unwrap();
+        String::from(word)
+    };
+    assert_eq!(word_after(&[]), "none");
+    assert_eq!(word_after(&[QUIET]), "run"); // IDLE
+    assert_eq!(word_after(&[QUIET, QUIET]), "idle");
+    assert_eq!(word_after(&[QUIET, low(&[1])]), "reset");
+    assert_eq!(word_after(&[QUIET, low(&[2])]), "load");
+    for level in 1..=4 {
+        assert_eq!(word_after(&[low(&[level + 2])]), format!("level{level}"));
+    }
+    assert_eq!(word_after(&[low(&[1]), QUIET]), "word"); // 0000 at 0000
+}
+
+#[test]
 fn out_may_be_the_image_itself() {
     let folder = Folder::new("same");
     let image = folder.put("image", &image_of(&example()));
     let pins = folder.put("pins", &pins(&[1, QUIET]));
     assert_eq!(
         replay(&image, &pins, &image),
-        ok("answer 0 steps 1 unassigned 0 pc 0102 wp 0300 st 8800")
+        ok("answer 0 steps 1 unassigned 0 pc 0102 wp 0300 st 8800 run")
     );
     assert_eq!(
         replay(&image, &pins, &image),
-        ok("answer 0 steps 1 unassigned 1 pc 0104 wp 0300 st 8800")
+        ok("answer 0 steps 1 unassigned 1 pc 0104 wp 0300 st 8800 word")
     );
 }
 
@@ -206,7 +232,7 @@ fn refusals() {
     images.push((9, bad));
     for (number, bytes) in images {
         let image = folder.put("image", &bytes);
-        let line = format!("answer {number} steps 0 unassigned 0 pc 0000 wp 0000 st 0000");
+        let line = format!("answer {number} steps 0 unassigned 0 pc 0000 wp 0000 st 0000 none");
         // No OUT is made, and one that is there stays.
         assert_eq!(replay(&image, &pins, &folder.file("out")), ok(&line));
         assert_eq!(folder.names(), ["image", "pins"]);

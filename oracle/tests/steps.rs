@@ -134,7 +134,7 @@ fn no_sample() {
     assert_eq!(b.state.flags, 0);
     assert_eq!(b.kind(low(&[2])), Step::Load);
     assert_eq!(b.state.flags, 2);
-    assert_eq!(b.kind(low(&[2])), Step::Unassigned); // word 0000 at 0700
+    assert_eq!(b.kind(low(&[2])), Step::Unassigned(0x0700)); // word 0000
     assert_eq!(b.kind(low(&[2])), Step::Load);
     assert_eq!(b.kind(low(&[1])), Step::Reset);
     assert_eq!(b.kind(low(&[8])), Step::Reset);
@@ -286,6 +286,7 @@ fn power_up_enters_reset() {
             block: 0,
             steps: 0,
             unassigned: 0,
+            last: Step::Nothing,
             state
         }
     );
@@ -303,6 +304,7 @@ fn power_up_enters_reset() {
                 block: 0,
                 steps: 0,
                 unassigned: 0,
+                last: Step::Nothing,
                 state: State::BLANK
             }
         );
@@ -392,6 +394,7 @@ fn refusals_of_the_run_in_order() {
         block: 0,
         steps: 0,
         unassigned: 0,
+        last: Step::Nothing,
         state,
     };
     // 1 before 2 before 3
@@ -479,6 +482,7 @@ fn stop_address() {
                 block: 0,
                 steps: 0,
                 unassigned: 0,
+                last: Step::Nothing,
                 state
             }
         );
@@ -579,6 +583,8 @@ fn running_a_then_b_is_running_both() {
         assert_eq!(second.number, 0);
         assert_eq!(first.steps + second.steps, whole.steps);
         assert_eq!(first.unassigned + second.unassigned, whole.unassigned);
+        let last = if second.steps == 0 { first } else { second }.last;
+        assert_eq!(last, whole.last);
         assert_eq!(second.state, whole.state);
         assert_eq!(in_parts, at_once);
     }
@@ -626,12 +632,13 @@ fn lively_machine(random: &mut Random) -> (Bench, Vec<u32>) {
 
 fn name(kind: Step) -> &'static str {
     match kind {
+        Step::Nothing => "nothing",
         Step::Reset => "reset",
         Step::Load => "load",
         Step::Level(_) => "level",
         Step::Instruction => "instruction",
-        Step::Unassigned => "unassigned",
         Step::Idle => "idle",
+        Step::Unassigned(_) => "unassigned",
     }
 }
 

@@ -5,6 +5,7 @@ use super::mix;
 use super::once_in;
 use super::word;
 use machine::State;
+use machine::StepAnswer;
 use psi::Psi;
 
 // How many numbers a clock register holds.
@@ -116,4 +117,10 @@ pub fn mix_state(sum: u32, state: State) -> u32 {
     let first = mix(mix(sum, state.wp as u32), state.pc as u32);
     let second = mix(mix(first, state.st as u32), state.flags as u32);
     mix_psi(second, psi)
+}
+
+// The sum with a step's answer more, as its two numbers.
+pub fn mix_answer(sum: u32, answer: StepAnswer) -> u32 {
+    let numbered = mix(sum, step_answers::number(answer) as u32);
+    mix(numbered, step_answers::value(answer) as u32)
 }

@@ -1,4 +1,5 @@
-// Runs of generated programs and of any bytes, with pin records, stop addresses and refused calls; sums of what came of them.
+// Runs of generated programs and of any bytes, with pin records and stop addresses, each also in single steps on a copy of the memory; and
+// refused calls; sums of the answer of every step and of what came of them.
 ghost use mathlib.Core.Path.{_≡_};
 ghost use Prim.Native.Nat.{_<_, _≤_};
 ghost use lib.ListN.{length};
@@ -29,6 +30,13 @@ struct Course {
     sum: u32,
     steps: u64,
     unassigned: u64,
+}
+
+// What a call is made with: the place of its first record, its most steps, its stop address.
+struct Plan {
+    from: usize,
+    steps: usize,
+    stop: u16,
 }
 
 // How quiet the pins are.
@@ -107,18 +115,51 @@ fn run_refused(bytes: &mut [u8], seed: &mut u32, state: State, records: &[u32]) 
     }
 }
 
-// A call: mostly a run on the records from some place on.
-fn call(bytes: &mut [u8], seed: &mut u32, state: State, records: &[u32]) -> RunAnswer
-    requires { ⌜ Installed (now bytes) ⌝ }
-    requires { ⌜ length (now records) ≡ 1024 ⌝ }
+// What the next call is made with, from a state with this PC.
+fn next_plan(seed: &mut u32, pc: u16) -> Plan
+    ensures { λ r. ⌜ r .from ≤ 255 ⌝ }
+    ensures { λ r. ⌜ r .steps ≤ 768 ⌝ }
 {
-    if seeds::once_in(seed, 8) {
-        return run_refused(bytes, seed, state, records);
-    }
     let from = below(seed, 256) as usize;
     let steps = below(seed, 769) as usize;
-    let address = stop(seed, state.pc);
-    run::run(bytes, state, &records[from..], steps, address)
+    Plan {
+        from,
+        steps,
+        stop: stop(seed, pc),
+    }
+}
+
+// The sum with the answers of a call's steps, each made by itself, and with the state that they lead to.
+fn single_steps(bytes: &mut [u8], state: State, records: &[u32], plan: Plan, sum: u32) -> u32
+    requires { ⌜ length (now records) ≡ 1024 ⌝ }
+    requires { ⌜ plan .from ≤ 255 ⌝ }
+    requires { ⌜ plan .steps ≤ 768 ⌝ }
+{
+    let mut s = state;
+    let mut mixed = sum;
+    let mut at = plan.from;
+    let end = at + plan.steps;
+    while at < end {
+        let answer = run::run(bytes, s, &records[at..], 1, plan.stop);
+        if answer.steps == 0 {
+            return states::mix_state(mixed, s);
+        }
+        let last = answer.last;
+        mixed = states::mix_answer(mixed, last);
+        let after = answer.state;
+        s = after;
+        at += 1;
+    }
+    states::mix_state(mixed, s)
+}
+
+// A run on the records from some place on.
+fn run_plan(bytes: &mut [u8], state: State, records: &[u32], plan: Plan) -> RunAnswer
+    requires { ⌜ length (now records) ≡ 1024 ⌝ }
+    requires { ⌜ plan .from ≤ 255 ⌝ }
+{
+    let from = plan.from;
+    run::run(bytes, state, &records[from..], plan.steps, plan.stop)
 }
 
 // A count as a number for the sum.
@@ -134,13 +175,38 @@ fn followed(course: Course, answer: RunAnswer) -> Course {
         seeds::mix(course.sum, answer.number as u32),
         low(answer.steps),
     );
-    next.sum = states::mix_state(seeds::mix(counts, low(answer.unassigned)), state);
+    let counted = seeds::mix(counts, low(answer.unassigned));
+    let last = answer.last;
+    next.sum = states::mix_state(states::mix_answer(counted, last), state);
     next.steps = std::num::wrapping_add_u64(course.steps, answer.steps as u64);
     next.unassigned = std::num::wrapping_add_u64(course.unassigned, answer.unassigned as u64);
     if answer.number == 0 {
         next.state = state;
     }
     next
+}
+
+// The course with one call more: mostly a run, which is first made in single steps on a copy of the memory.
+fn call(
+    bytes: &mut [u8],
+    copy: &mut [u8],
+    seed: &mut u32,
+    records: &[u32],
+    course: Course,
+) -> Course
+    requires { ⌜ Installed (now bytes) ⌝ }
+    requires { ⌜ Installed (now copy) ⌝ }
+    requires { ⌜ length (now records) ≡ 1024 ⌝ }
+{
+    let state = course.state;
+    if seeds::once_in(seed, 8) {
+        return followed(course, run_refused(bytes, seed, state, records));
+    }
+    let plan = next_plan(seed, state.pc);
+    bytes::copy(bytes, copy);
+    let mut next = course;
+    next.sum = single_steps(copy, state, records, plan, course.sum);
+    followed(next, run_plan(bytes, state, records, plan))
 }
 
 // The state that the calls on a memory start from: after power up, or any. With both flags every call is refused.
@@ -160,16 +226,21 @@ fn start(bytes: &mut [u8], seed: &mut u32) -> State
 }
 
 // Calls on one memory.
-fn calls(bytes: &mut [u8], seed: &mut u32, records: &[u32], course: Course) -> Course
+fn calls(
+    bytes: &mut [u8],
+    copy: &mut [u8],
+    seed: &mut u32,
+    records: &[u32],
+    course: Course,
+) -> Course
     requires { ⌜ Installed (now bytes) ⌝ }
+    requires { ⌜ Installed (now copy) ⌝ }
     requires { ⌜ length (now records) ≡ 1024 ⌝ }
 {
     let mut now_at = course;
     let mut i: u32 = 0;
     while i < CALLS {
-        let state = now_at.state;
-        let answer = call(bytes, seed, state, records);
-        now_at = followed(now_at, answer);
+        now_at = call(bytes, copy, seed, records, now_at);
         i += 1;
     }
     now_at
@@ -185,8 +256,15 @@ fn renew(bytes: &mut [u8], seed: &mut u32, records: &mut [u32])
 }
 
 // One memory: its bytes, its records, its calls, and what they leave.
-fn one(bytes: &mut [u8], seed: &mut u32, records: &mut [u32], course: Course) -> Course
+fn one(
+    bytes: &mut [u8],
+    copy: &mut [u8],
+    seed: &mut u32,
+    records: &mut [u32],
+    course: Course,
+) -> Course
     requires { ⌜ Installed (now bytes) ⌝ }
+    requires { ⌜ Installed (now copy) ⌝ }
     requires { ⌜ length (now records) ≡ 1024 ⌝ }
 {
     renew(bytes, seed, records);
@@ -194,14 +272,15 @@ fn one(bytes: &mut [u8], seed: &mut u32, records: &mut [u32], course: Course) ->
     let state = start(bytes, seed);
     first.state = state;
     first.sum = states::mix_state(first.sum, state);
-    let mut last = calls(bytes, seed, records, first);
+    let mut last = calls(bytes, copy, seed, records, first);
     last.sum = seeds::mix_bytes(last.sum, bytes);
     last
 }
 
 // A line: some memories, and the sums.
-fn line(bytes: &mut [u8], seed: &mut u32, records: &mut [u32])
+fn line(bytes: &mut [u8], copy: &mut [u8], seed: &mut u32, records: &mut [u32])
     requires { ⌜ Installed (now bytes) ⌝ }
+    requires { ⌜ Installed (now copy) ⌝ }
     requires { ⌜ length (now records) ≡ 1024 ⌝ }
 {
     let blank = State::blank();
@@ -213,7 +292,7 @@ fn line(bytes: &mut [u8], seed: &mut u32, records: &mut [u32])
     };
     let mut i: u32 = 0;
     while i < MEMORIES {
-        course = one(bytes, seed, records, course);
+        course = one(bytes, copy, seed, records, course);
         i += 1;
     }
     lines::number(course.steps);
@@ -240,12 +319,13 @@ fn other_sizes() {
 
 fn main() {
     let mut bytes = [0u8; memory::SIZE];
+    let mut copy = [0u8; memory::SIZE];
     let mut records = [0u32; 1024];
     let mut seed: u32 = 9900;
     other_sizes();
     let mut n: u32 = 0;
     while n < LINES {
-        line(&mut bytes, &mut seed, &mut records);
+        line(&mut bytes, &mut copy, &mut seed, &mut records);
         n += 1;
     }
 }

@@ -1,7 +1,7 @@
-// Every word executed five times, from different states and memories, once of them through X; sums of what came of it.
+// Every word executed five times, from different states and memories, once of them through X; sums of what is told of every word and of
+// what came of it.
 ghost use Prim.Native.Nat.{_<_, _≤_};
 ghost use Rattle.memory.specs.Memory.{Installed};
-use machine::Deed;
 use machine::State;
 use memory::Width;
 use seeds::lines;
@@ -18,7 +18,7 @@ const LINES: u16 = 160;
 // The sum so far, and how many unassigned words there were.
 struct Tally {
     sum: u32,
-    unassigned: u32,
+    unassigned: u64,
 }
 
 // Puts a word into a register.
@@ -92,16 +92,6 @@ fn mix_registers(sum: u32, bytes: &[u8], wp: u16) -> u32
     mixed
 }
 
-// 1 for an unassigned word, else 0.
-fn missed(deed: Deed) -> u32 {
-    match deed {
-        Deed::Unassigned => 1,
-        Deed::Ordinary => 0,
-        Deed::Switched => 0,
-        Deed::Returned => 0,
-    }
-}
-
 // Fills the workspace and what may be further words, and gives the word to be executed: `word` itself, or X that leads to it.
 fn prepared(bytes: &mut [u8], seed: &mut u32, state: State, word: u16, through: bool) -> u16
     requires { ⌜ Installed (now bytes) ⌝ }
@@ -132,11 +122,14 @@ fn one(bytes: &mut [u8], seed: &mut u32, word: u16, through: bool, tally: Tally)
     let executed = cpu::perform(bytes, state, record.levels, first, cpu::ALLOWANCE);
     let deed = executed.deed;
     let after = executed.state;
-    let miss = missed(deed);
-    let sum = states::mix_state(seeds::mix(tally.sum, miss), after);
+    let answer = step_answers::told_word(state.pc, deed);
+    let sum = states::mix_state(states::mix_answer(tally.sum, answer), after);
     Tally {
         sum: mix_registers(sum, bytes, after.wp),
-        unassigned: std::num::wrapping_add_u32(tally.unassigned, miss),
+        unassigned: std::num::wrapping_add_u64(
+            tally.unassigned,
+            step_answers::missed(answer) as u64,
+        ),
     }
 }
 
@@ -166,7 +159,7 @@ fn line(bytes: &mut [u8], seed: &mut u32, n: u16)
     let first = n % PASS * WORDS;
     let tally = words(bytes, seed, first, n / PASS == 4);
     lines::number(first as u64);
-    lines::number(tally.unassigned as u64);
+    lines::number(tally.unassigned);
     lines::sum(tally.sum);
     lines::last(seeds::mix_bytes(0, bytes));
 }

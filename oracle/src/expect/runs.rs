@@ -1,5 +1,5 @@
 //! Runs of generated programs and of any bytes, with pin records, stop addresses
-//! and refused calls.
+//! and refused calls. What each step was is asked in single steps on a copy.
 
 use std::fmt::Write;
 
@@ -44,17 +44,6 @@ fn run_refused(memory: &mut Memory, seeds: &mut Seeds, state: State, records: &[
     }
 }
 
-/// A call: mostly a run on the records from some place on.
-fn call(memory: &mut Memory, seeds: &mut Seeds, state: State, records: &[u32]) -> Answer {
-    if seeds.once_in(8) {
-        return run_refused(memory, seeds, state, records);
-    }
-    let from = usize::from(seeds.below(256));
-    let steps = usize::from(seeds.below(769));
-    let stop = stop(seeds, state.pc);
-    run(memory, state, &records[from..], steps, stop)
-}
-
 /// What the calls of a line came to.
 #[derive(Default)]
 struct Course {
@@ -64,10 +53,40 @@ struct Course {
 }
 
 impl Course {
+    /// A run in single steps, on a copy of the memory: what each step was, and
+    /// the state that they lead to.
+    fn single_steps(&mut self, memory: &Memory, state: State, records: &[u32], steps: usize, stop: u16) {
+        let mut copy = *memory;
+        let mut at = state;
+        for i in 0..steps {
+            let answer = run(&mut copy, at, &records[i..], 1, stop);
+            if answer.steps == 0 {
+                break;
+            }
+            self.sum.mix_step(answer.last);
+            at = answer.state;
+        }
+        self.sum.mix_state(&at);
+    }
+
+    /// A call: mostly a run on the records from some place on, which is done in
+    /// single steps first.
+    fn call(&mut self, memory: &mut Memory, seeds: &mut Seeds, state: State, records: &[u32]) -> Answer {
+        if seeds.once_in(8) {
+            return run_refused(memory, seeds, state, records);
+        }
+        let from = usize::from(seeds.below(256));
+        let steps = usize::from(seeds.below(769));
+        let stop = stop(seeds, state.pc);
+        self.single_steps(memory, state, &records[from..], steps, stop);
+        run(memory, state, &records[from..], steps, stop)
+    }
+
     fn follow(&mut self, answer: &Answer) {
         self.sum.mix(u32::from(answer.number));
         self.sum.mix(answer.steps as u32);
         self.sum.mix(answer.unassigned as u32);
+        self.sum.mix_step(answer.last);
         self.sum.mix_state(&answer.state);
         self.steps += answer.steps;
         self.unassigned += answer.unassigned;
@@ -93,7 +112,7 @@ impl Course {
         };
         self.sum.mix_state(&at);
         for _ in 0..CALLS {
-            let answer = call(memory, seeds, at, &records);
+            let answer = self.call(memory, seeds, at, &records);
             self.follow(&answer);
             if answer.number == Answer::ACCEPTED {
                 at = answer.state;

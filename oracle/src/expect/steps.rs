@@ -4,7 +4,7 @@
 use std::fmt::Write;
 
 use super::{address_of, fill, get_word, put_word, record, state, sum_of, value, Sum};
-use crate::cpu::{Machine, Step};
+use crate::cpu::Machine;
 use crate::psi::Pins;
 use crate::seeds::Seeds;
 use crate::{Memory, MEMORY_SIZE};
@@ -56,15 +56,16 @@ fn one(memory: &mut Memory, seeds: &mut Seeds, word: u16, through: bool, sum: &m
 
     let mut machine = Machine::new(memory, before);
     machine.bus.pins = pins;
-    let unassigned = machine.execute_fetched(first) == Step::Unassigned;
+    // no word is fetched here, so the PC told is the state's own
+    let step = machine.execute_fetched(first, pc);
     let after = machine.state();
 
-    sum.mix(u32::from(unassigned));
+    sum.mix_step(step);
     sum.mix_state(&after);
     for n in 0..16 {
         sum.mix(u32::from(get_word(memory, address_of(after.wp, n))));
     }
-    unassigned
+    step.is_unassigned()
 }
 
 pub fn expect() -> String {

@@ -3,7 +3,7 @@
 
 use super::{list, TEXT_SIZE};
 use crate::bus::{Access, MEMORY_SIZE};
-use crate::cpu::{Machine, Step};
+use crate::cpu::Machine;
 use crate::state::State;
 
 #[test]
@@ -31,6 +31,6 @@ fn words_are_those_fetched() {
 
         let data = text[9..].starts_with(b" DATA >");
         let executes = (0x0480..0x04C0).contains(&word);
-        assert_eq!(data || executes, step == Step::Unassigned, "{word:04X}");
+        assert_eq!(data || executes, step.is_unassigned(), "{word:04X}");
     }
 }

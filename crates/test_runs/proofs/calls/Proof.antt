@@ -1,4 +1,4 @@
--- A turn for each of the eight calls, which leaves the memory's length.
+-- A turn for each of the eight calls, which leaves the lengths of memory and copy.
 use lib.ListN.{length}
 use Prim.Native.Nat.{_≤_, _-_}
 use mathlib.Core.Path.{_≡_}
@@ -7,10 +7,10 @@ use Rattle.test_runs.proofs.calls.Statement.{statement}
 use Rattle.test_runs.proofs.calls.Tie as tie
 
 abbrev Inv-loop : tie.InvT-loop
-Inv-loop bytes₀ seed₀ records now-at₀ i₀ bytes seed now-at i = (length bytes ≡ length bytes₀) × (i ≤ 8)
+Inv-loop bytes₀ copy₀ seed₀ records now-at₀ i₀ bytes copy seed now-at i = ((length bytes ≡ length bytes₀) × (length copy ≡ length copy₀)) × (i ≤ 8)
 
 abbrev μ-loop : tie.MeasureT-loop
-μ-loop bytes₀ seed₀ records now-at₀ i₀ bytes seed now-at i = 8 - i
+μ-loop bytes₀ copy₀ seed₀ records now-at₀ i₀ bytes copy seed now-at i = 8 - i
 
 pub calls-spec : {M : Type 1} → statement M
 calls-spec =
@@ -20,7 +20,7 @@ calls-spec =
     μ-loop
     (λ c. search needs)
     (λ c κs. search needs)
-    (λ c κs. search needs)
+    (λ c. search needs)
     (λ c. search needs)
     (λ c. search needs)
     (λ c. search needs)
