@@ -12,7 +12,7 @@ use Rattle.psi.specs.declared.Psi.{Psi}
 use Rattle.psi.specs.declared.CruBit.{CruBit}
 use Rattle.psi.specs.Psi.{blank, control, bits, clock-largest, tick-cycles, with-mask, with-ports, with-phase, with-pending, with-count, with-load, refreshed}
 use Rattle.psi.specs.Clock.{counted, pended, followed, tick, ticks, advanced}
-use Rattle.psi.specs.Cru.{controlled, masked, timed, latched, sensed, driven}
+use Rattle.psi.specs.Cru.{controlled, masked, timed, latched, selected, addressed, sensed, written, driven}
 use Rattle.psi.specs.Formed.{well-formed}
 use Rattle.psi.specs.Kept.{Fits16, Kept, KeptFormed, KeptFits}
 use Rattle.psi.proofs.Cases.{either-way}
@@ -58,32 +58,44 @@ module _ (P : Psi → Type 0) (ch : Changes P) where
 
   latched-keeps : (k : ℕ) (x : Bool) (p : Psi) → k < 16 → P p → P (latched p k x)
   unfolding latched
-  latched-keeps k x p u h = ch .refresh (ch .port k x u h)
+  latched-keeps k x p u h = ch .port k x u h
 
   advanced-keeps : (n : ℕ) {p : Psi} → P p → P (advanced n p)
   unfolding advanced
   advanced-keeps n {p} h = ticks-keep ((p .phase + n) / 64) (ch .phase ((p .phase + n) % 64) (omega arith) h)
 
+  selected-keeps : (s0 : Bool) {p : Psi} → P p → P (selected s0 p)
+  unfolding selected
+  selected-keeps true h = ch .refresh h
+  selected-keeps false h = h
+
+  addressed-keeps : (a : ℕ) {p : Psi} → P p → P (addressed a p)
+  unfolding addressed
+  addressed-keeps a h = selected-keeps _ h
+
   sensed-keeps : (v : ℕ) (b : CruBit) {p : Psi} → P p → P (sensed p v b .psi)
   unfolding sensed
-  sensed-keeps v b h =
-      either-way P (ltb (b .0) 16) (λ l. h) (λ l. either-way P (ltb (b .0) bits) (λ m. ch .refresh h) (λ m. h))
+  sensed-keeps v b h = selected-keeps _ h
+
+  written-keeps : (n : ℕ) (x : Bool) {p : Psi} → P p → P (written p n x)
+  unfolding written
+  written-keeps n x {p} h =
+      either-way P (eqb n 0)
+      (λ z. controlled-keeps x p h)
+      (λ z. either-way P (ltb n 16)
+      (λ l. either-way P (control p)
+      (λ c. timed-keeps n x p (omega (arith, eqb-false n 0 z)) (ltb-true n 16 l) c h)
+      (λ c. masked-keeps n x p (omega (arith, eqb-false n 0 z)) (ltb-true n 16 l) h))
+      (λ l. either-way P (ltb n bits)
+      (λ m. latched-keeps (n - 16) x p (omega (arith, ltb-true n bits m)) h)
+      (λ m. h)))
 
   driven-keeps : (b : CruBit) (x : Bool) {p : Psi} → P p → P (driven p b x)
   unfolding driven
-  driven-keeps b x {p} h =
-      either-way P (eqb (b .0) 0)
-      (λ z. controlled-keeps x p h)
-      (λ z. either-way P (ltb (b .0) 16)
-      (λ l. either-way P (control p)
-      (λ c. timed-keeps (b .0) x p (omega (arith, eqb-false (b .0) 0 z)) (ltb-true (b .0) 16 l) c h)
-      (λ c. masked-keeps (b .0) x p (omega (arith, eqb-false (b .0) 0 z)) (ltb-true (b .0) 16 l) h))
-      (λ l. either-way P (ltb (b .0) bits)
-      (λ m. latched-keeps (b .0 - 16) x p (omega (arith, ltb-true (b .0) bits m)) h)
-      (λ m. h)))
+  driven-keeps b x h = selected-keeps _ (written-keeps (b .0) x h)
 
   all-kept : Kept P
-  all-kept = record { start = ch .start; cycles = advanced-keeps; read = sensed-keeps; write = driven-keeps }
+  all-kept = record { start = ch .start; cycles = advanced-keeps; address = addressed-keeps; read = sensed-keeps; write = driven-keeps }
 
 -- the numbers of a tick are bounded by what bounds the old ones
 counted-below : (b : ℕ) (p : Psi) → clock-largest ≤ b → p .load ≤ b → p .decrementer ≤ b → counted p ≤ b
@@ -237,6 +249,7 @@ kept-formed =
     record {
       start = blank-formed;
       cycles = λ n {p} w. formed _ (kept .cycles n (form p w));
+      address = λ a {p} w. formed _ (kept .address a (form p w));
       read = λ v b {p} w. formed _ (kept .read v b (form p w));
       write = λ b x {p} w. formed _ (kept .write b x (form p w));
     }

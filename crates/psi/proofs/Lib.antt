@@ -1,6 +1,7 @@
 pub mod Cases
 pub mod Search
 pub mod Put
+pub mod Select
 pub mod AtOnce
 pub mod ClockLaws
 pub mod RequestLaws

@@ -38,12 +38,29 @@ sensed-value s v n =
     else if ltb n bits then port-level s v (n - 16)
     else true
 
--- Any access to bits 16 to 31 refreshes the read register.
+-- Document 02, Q-4: the PSI's select line S0 hangs on the address line of weight 32. A CRU bit's number is half its address, so there
+-- the line has weight 16. As numbers of bits:
+abbrev pub memory-select : ℕ
+memory-select = 5
+
+abbrev pub cru-select : ℕ
+cru-select = 4
+
+-- While S0 is 1 the PSI is not in clock mode: the read register takes the decrementer's value. Control stays as it is.
+unfoldable pub selected : Bool → Psi → Psi
+selected s0 p = if s0 then refreshed p else p
+
+-- the PSI after an access to memory at a byte address, as that is before it is taken modulo the memory's size; its lowest bit does not
+-- matter, so neither does the width
+unfoldable pub addressed : ℕ → Psi → Psi
+addressed a = selected (bit memory-select a)
+
+-- Any access to a bit whose number has weight 16, inside the PSI (16 to 31) or outside it, refreshes the read register.
 unfoldable pub sensed : Psi → ℕ → CruBit → Sensed
 sensed s v b =
     record {
       value = sensed-value s v (b .0);
-      psi = if ltb (b .0) 16 then s else if ltb (b .0) bits then refreshed s else s;
+      psi = selected (bit cru-select (b .0)) s;
     }
 
 -- Bit 0 is the control bit. Control becoming 0 refreshes the read register.
@@ -58,15 +75,18 @@ masked s n x = if eqb n 3 then with-pending 0 (with-mask (put n x (s .mask)) s) 
 unfoldable pub timed : Psi → ℕ → Bool → Psi
 timed s n x = if eqb n 15 then (if x then s else with-ports 0 0 s) else with-load (put (n - 1) x (s .load)) s
 
--- Bits 16 to 31: the latch of port k takes the value and the port becomes an output; as any access here, this refreshes
--- the read register.
+-- Bits 16 to 31: the latch of port k takes the value and the port becomes an output.
 unfoldable pub latched : Psi → ℕ → Bool → Psi
-latched s k x = refreshed (with-ports (put k true (s .direction)) (put k x (s .latch)) s)
+latched s k x = with-ports (put k true (s .direction)) (put k x (s .latch)) s
 
--- what the PSI is after bit n was written, by the table's rows
-unfoldable pub driven : Psi → CruBit → Bool → Psi
-driven s b x =
-    if eqb (b .0) 0 then controlled s x
-    else if ltb (b .0) 16 then (if control s then timed s (b .0) x else masked s (b .0) x)
-    else if ltb (b .0) bits then latched s (b .0 - 16) x
+-- what is written to bit n, by the table's rows; outside the PSI nothing
+unfoldable pub written : Psi → ℕ → Bool → Psi
+written s n x =
+    if eqb n 0 then controlled s x
+    else if ltb n 16 then (if control s then timed s n x else masked s n x)
+    else if ltb n bits then latched s (n - 16) x
     else s
+
+-- A write is an access too: with weight 16 in the number it refreshes the read register.
+unfoldable pub driven : Psi → CruBit → Bool → Psi
+driven s b x = selected (bit cru-select (b .0)) (written s (b .0) x)

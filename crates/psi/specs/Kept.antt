@@ -6,7 +6,7 @@ use Rattle.psi.specs.declared.Psi.{Psi}
 use Rattle.psi.specs.declared.CruBit.{CruBit}
 use Rattle.psi.specs.Psi.{blank}
 use Rattle.psi.specs.Clock.{advanced}
-use Rattle.psi.specs.Cru.{sensed, driven}
+use Rattle.psi.specs.Cru.{addressed, sensed, driven}
 use Rattle.psi.specs.Formed.{well-formed}
 
 -- the fields are words of 16 bits
@@ -20,10 +20,11 @@ pub record Fits16 (p : Psi) : Type 0 where
   pub phase : p .phase < 2 ^ 16
   pub pending : p .pending < 2 ^ 16
 
--- a property of the PSI that the blank state has and that any cycles and any read or write of a CRU bit keep
+-- a property of the PSI that the blank state has and that any cycles, any access to memory and any read or write of a CRU bit keep
 pub record Kept (P : Psi → Type 0) : Type 0 where
   pub start : P blank
   pub cycles : (n : ℕ) {p : Psi} → P p → P (advanced n p)
+  pub address : (a : ℕ) {p : Psi} → P p → P (addressed a p)
   pub read : (v : ℕ) (b : CruBit) {p : Psi} → P p → P (sensed p v b .psi)
   pub write : (b : CruBit) (x : Bool) {p : Psi} → P p → P (driven p b x)
 

@@ -1,6 +1,7 @@
 // The PSI's CRU bits, read and written.
 ghost use mathlib.Core.Path.{_≡_};
 ghost use Prim.Native.Nat.{_<_};
+ghost use Rattle.psi.specs.Psi as Own;
 ghost use Rattle.psi.specs.Cru as Cru;
 use crate::CruBit;
 use crate::Psi;
@@ -39,20 +40,31 @@ impl Psi {
         }
     }
 
-    // Reads a CRU bit. An access to a port's bit refreshes the read register.
+    // With S0 at 1 clock mode is left for the moment: the read register is refreshed.
+    fn selected(self, s0: bool) -> Psi
+        ensures { λ r. ⌜ r ≡ Cru.selected s0 self ⌝ }
+    {
+        if s0 { self.refreshed() } else { self }
+    }
+
+    // An access to memory at this byte address.
+    pub fn addressed(self, address: u16) -> Psi
+        ensures { λ r. ⌜ r ≡ Cru.addressed address self ⌝ }
+    {
+        self.selected(bits::bit(address as u32, Psi::MEMORY_SELECT))
+    }
+
+    // Reads a CRU bit. Below 16 S0 is 0: with this test first a transfer of such bits is quicker.
     pub fn sense(self, levels: u32, bit: CruBit) -> Sensed
         ensures { λ r. ⌜ r ≡ Cru.sensed self levels bit ⌝ }
     {
         let n = bit.0;
         let value = self.sensed_value(levels, n);
         if n < 16 {
-            Sensed { value, psi: self }
-        } else if n < Psi::BITS {
-            let psi = self.refreshed();
-            Sensed { value, psi }
-        } else {
-            Sensed { value, psi: self }
+            return Sensed { value, psi: self };
         }
+        let psi = self.selected(bits::bit(n as u32, Psi::CRU_SELECT));
+        Sensed { value, psi }
     }
 
     // Bit 0 written.
@@ -94,17 +106,17 @@ impl Psi {
         self
     }
 
-    // The bit of port `k` written.
+    // The bit of port `k` written, which refreshes the read register.
     fn latched(mut self, k: u32, value: bool) -> Psi
         requires { ⌜ k < 16 ⌝ }
-        ensures { λ r. ⌜ r ≡ Cru.latched self k value ⌝ }
+        ensures { λ r. ⌜ r ≡ Own.refreshed (Cru.latched self k value) ⌝ }
     {
         self.direction = bits::put(self.direction, k, true);
         self.latch = bits::put(self.latch, k, value);
         self.refreshed()
     }
 
-    // Writes a CRU bit.
+    // Writes a CRU bit. Below 16 S0 is 0, at the ports it is 1.
     pub fn drive(self, bit: CruBit, value: bool) -> Psi
         ensures { λ r. ⌜ r ≡ Cru.driven self bit value ⌝ }
     {
@@ -121,7 +133,7 @@ impl Psi {
         } else if n < Psi::BITS {
             self.latched((n - 16) as u32, value)
         } else {
-            self
+            self.selected(bits::bit(n as u32, Psi::CRU_SELECT))
         }
     }
 }

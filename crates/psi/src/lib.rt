@@ -32,6 +32,10 @@ impl Psi {
     pub const CLOCK_LARGEST: u16 = (1 << Psi::CLOCK_BITS) - 1;
     // Cycles of one tick.
     pub const TICK_CYCLES: u16 = 64;
+    // The bits of a memory address, and of a CRU bit's number, that the select line S0 hangs on.
+    pub const MEMORY_SELECT: u32 = 5;
+
+    pub const CRU_SELECT: u32 = 4;
     // The code that stands for no request.
     pub const NO_REQUEST: u16 = 7;
     // The words that hold a PSI in an image, one a field.

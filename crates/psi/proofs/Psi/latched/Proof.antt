@@ -1,4 +1,4 @@
--- The code is the definition.
+-- The code is the definition, and the refresh is the PSI's own.
 use Rattle.psi.specs.Cru.{latched}
 use borrow.Author.Needs.{needs}
 use Rattle.psi.proofs.Psi.latched.Statement.{statement}
