@@ -10,7 +10,7 @@ use Rattle.psi.specs.Cru as Cru
 use Rattle.machine.specs.State as State
 use Rattle.machine.specs.State.{Machine}
 use Rattle.machine.specs.Micro.{Micro, done, look, assign, fetch, read, write, sense, drive, _>>=_, registers}
-use Rattle.machine.specs.Perform.{perform, performed, accesses, fetches, Access, was-fetched, was-read, was-written, was-sensed, was-driven, after-assign, after-fetch, after-write, after-sense, after-drive}
+use Rattle.machine.specs.Perform.{perform, performed, accesses, fetches, Access, was-fetched, was-read, was-written, was-sensed, was-driven, after-assign, after-fetch, after-read, after-write, after-sense, after-drive}
 
 module _ {A B : Type 0} (v : ℕ) where
   pub perform-bind : (p : Micro A) (f : A → Micro B) (m : Machine)
@@ -20,7 +20,7 @@ module _ {A B : Type 0} (v : ℕ) where
   perform-bind (look k) f m = perform-bind (k _) f m
   perform-bind (assign t x k) f m = perform-bind k f _
   perform-bind (fetch k) f m = perform-bind (k _) f _
-  perform-bind (read w a k) f m = perform-bind (k _) f m
+  perform-bind (read w a k) f m = perform-bind (k _) f _
   perform-bind (write w a x k) f m = perform-bind k f _
   perform-bind (sense b k) f m = perform-bind (k _) f _
   perform-bind (drive b x k) f m = perform-bind k f _
@@ -32,7 +32,7 @@ module _ {A B : Type 0} (v : ℕ) where
   accesses-bind (look k) f m = accesses-bind (k _) f m
   accesses-bind (assign t x k) f m = accesses-bind k f (after-assign t x m)
   accesses-bind (fetch k) f m = ap (was-fetched (m .state .pc) ∷_) (accesses-bind (k (loaded Word (m .memory) (m .state .pc))) f (after-fetch m))
-  accesses-bind (read w a k) f m = ap (was-read w a ∷_) (accesses-bind (k (loaded w (m .memory) a)) f m)
+  accesses-bind (read w a k) f m = ap (was-read w a ∷_) (accesses-bind (k (loaded w (m .memory) a)) f (after-read a m))
   accesses-bind (write w a x k) f m = ap (was-written w a x ∷_) (accesses-bind k f (after-write w a x m))
   accesses-bind (sense b k) f m = ap (was-sensed b ∷_) (accesses-bind (k (Cru.sensed (m .state .psi) v b .value)) f (after-sense v b m))
   accesses-bind (drive b x k) f m = ap (was-driven b x ∷_) (accesses-bind k f (after-drive b x m))

@@ -15,15 +15,15 @@ use Rattle.psi.proofs.Kept as Psi
 use Rattle.machine.specs.declared.State.{State}
 use Rattle.machine.specs.State.{Machine, registers, well-formed}
 use Rattle.machine.specs.Micro.{done, look, assign, fetch, read, write, sense, drive, Target, to-wp, to-pc, to-st, to-flags}
-use Rattle.machine.specs.Perform.{perform, accesses, written, after-assign, after-fetch, after-write, after-sense, after-drive, assigned}
+use Rattle.machine.specs.Perform.{perform, accesses, written, after-assign, after-fetch, after-read, after-write, after-sense, after-drive, assigned}
 use Rattle.machine.specs.Laws.{Keeps-the-rest, Keeps-the-length, Keeps-bytes, Even, Keeps-even, Words, Keeps-words, Keeps-the-psi-formed}
 
 -- both parts of a false disjunction are false
-or-left : (a b : Bool) → (a || b) ≡ false → a ≡ false
+pub or-left : (a b : Bool) → (a || b) ≡ false → a ≡ false
 or-left true b e = e
 or-left false b e = refl
 
-or-right : (a b : Bool) → (a || b) ≡ false → b ≡ false
+pub or-right : (a b : Bool) → (a || b) ≡ false → b ≡ false
 or-right true true e = e
 or-right true false e = refl
 or-right false b e = e
@@ -34,7 +34,7 @@ keeps-the-rest v (done a) m i e = refl
 keeps-the-rest v (look k) m i e = keeps-the-rest v (k (registers (m .state))) m i e
 keeps-the-rest v (assign t x k) m i e = keeps-the-rest v k (after-assign t x m) i e
 keeps-the-rest v (fetch k) m i e = keeps-the-rest v (k (loaded Word (m .memory) (m .state .pc))) (after-fetch m) i e
-keeps-the-rest v (read w a k) m i e = keeps-the-rest v (k (loaded w (m .memory) a)) m i e
+keeps-the-rest v (read w a k) m i e = keeps-the-rest v (k (loaded w (m .memory) a)) (after-read a m) i e
 keeps-the-rest v (write w a x k) m i e =
     let f = sym (covers-append i (touched w a) (written (accesses v k (after-write w a x m)))) ∙ e in
     keeps-the-rest v k (after-write w a x m) i (or-right (covers i (touched w a)) _ f)
@@ -49,7 +49,7 @@ keeps-the-length v (done a) m = refl
 keeps-the-length v (look k) m = keeps-the-length v (k (registers (m .state))) m
 keeps-the-length v (assign t x k) m = keeps-the-length v k (after-assign t x m)
 keeps-the-length v (fetch k) m = keeps-the-length v (k (loaded Word (m .memory) (m .state .pc))) (after-fetch m)
-keeps-the-length v (read w a k) m = keeps-the-length v (k (loaded w (m .memory) a)) m
+keeps-the-length v (read w a k) m = keeps-the-length v (k (loaded w (m .memory) a)) (after-read a m)
 keeps-the-length v (write w a x k) m = keeps-the-length v k (after-write w a x m) ∙ stored-length w (m .memory) a x
 keeps-the-length v (sense b k) m = keeps-the-length v (k (Cru.sensed (m .state .psi) v b .value)) (after-sense v b m)
 keeps-the-length v (drive b x k) m = keeps-the-length v k (after-drive b x m)
@@ -60,7 +60,7 @@ keeps-bytes v (done a) m h = h
 keeps-bytes v (look k) m h = keeps-bytes v (k (registers (m .state))) m h
 keeps-bytes v (assign t x k) m h = keeps-bytes v k (after-assign t x m) h
 keeps-bytes v (fetch k) m h = keeps-bytes v (k (loaded Word (m .memory) (m .state .pc))) (after-fetch m) h
-keeps-bytes v (read w a k) m h = keeps-bytes v (k (loaded w (m .memory) a)) m h
+keeps-bytes v (read w a k) m h = keeps-bytes v (k (loaded w (m .memory) a)) (after-read a m) h
 keeps-bytes v (write w a x k) m h = keeps-bytes v k (after-write w a x m) (stored-bytes w (m .memory) a x h)
 keeps-bytes v (sense b k) m h = keeps-bytes v (k (Cru.sensed (m .state .psi) v b .value)) (after-sense v b m) h
 keeps-bytes v (drive b x k) m h = keeps-bytes v k (after-drive b x m) h
@@ -78,7 +78,7 @@ keeps-even v (look k) m h = keeps-even v (k (registers (m .state))) m h
 keeps-even v (assign t x k) m h = keeps-even v k (after-assign t x m) (even-assigned t x m h)
 keeps-even v (fetch k) m h =
     keeps-even v (k (loaded Word (m .memory) (m .state .pc))) (after-fetch m) (record { wp = h .wp; pc = omega arith })
-keeps-even v (read w a k) m h = keeps-even v (k (loaded w (m .memory) a)) m h
+keeps-even v (read w a k) m h = keeps-even v (k (loaded w (m .memory) a)) (after-read a m) (record { wp = h .wp; pc = h .pc })
 keeps-even v (write w a x k) m h = keeps-even v k (after-write w a x m) (record { wp = h .wp; pc = h .pc })
 keeps-even v (sense b k) m h =
     keeps-even v (k (Cru.sensed (m .state .psi) v b .value)) (after-sense v b m) (record { wp = h .wp; pc = h .pc })
@@ -97,9 +97,13 @@ keeps-words v (look k) m h = keeps-words v (k (registers (m .state))) m h
 keeps-words v (assign t x k) m h = keeps-words v k (after-assign t x m) (words-assigned t x m h)
 keeps-words v (fetch k) m h =
     keeps-words v (k (loaded Word (m .memory) (m .state .pc))) (after-fetch m)
-    (record { wp = h .wp; pc = omega arith; st = h .st; flags = h .flags; psi = h .psi })
-keeps-words v (read w a k) m h = keeps-words v (k (loaded w (m .memory) a)) m h
-keeps-words v (write w a x k) m h = keeps-words v k (after-write w a x m) h
+    (record { wp = h .wp; pc = omega arith; st = h .st; flags = h .flags; psi = Psi.kept-fits .address (m .state .pc) (h .psi) })
+keeps-words v (read w a k) m h =
+    keeps-words v (k (loaded w (m .memory) a)) (after-read a m)
+    (record { wp = h .wp; pc = h .pc; st = h .st; flags = h .flags; psi = Psi.kept-fits .address a (h .psi) })
+keeps-words v (write w a x k) m h =
+    keeps-words v k (after-write w a x m)
+    (record { wp = h .wp; pc = h .pc; st = h .st; flags = h .flags; psi = Psi.kept-fits .address a (h .psi) })
 keeps-words v (sense b k) m h =
     keeps-words v (k (Cru.sensed (m .state .psi) v b .value)) (after-sense v b m)
     (record { wp = h .wp; pc = h .pc; st = h .st; flags = h .flags; psi = Psi.kept-fits .read v b (h .psi) })
@@ -115,9 +119,12 @@ keeps-the-psi-formed v (assign to-wp x k) m h = keeps-the-psi-formed v k (after-
 keeps-the-psi-formed v (assign to-pc x k) m h = keeps-the-psi-formed v k (after-assign to-pc x m) h
 keeps-the-psi-formed v (assign to-st x k) m h = keeps-the-psi-formed v k (after-assign to-st x m) h
 keeps-the-psi-formed v (assign to-flags x k) m h = keeps-the-psi-formed v k (after-assign to-flags x m) h
-keeps-the-psi-formed v (fetch k) m h = keeps-the-psi-formed v (k (loaded Word (m .memory) (m .state .pc))) (after-fetch m) h
-keeps-the-psi-formed v (read w a k) m h = keeps-the-psi-formed v (k (loaded w (m .memory) a)) m h
-keeps-the-psi-formed v (write w a x k) m h = keeps-the-psi-formed v k (after-write w a x m) h
+keeps-the-psi-formed v (fetch k) m h =
+    keeps-the-psi-formed v (k (loaded Word (m .memory) (m .state .pc))) (after-fetch m) (Psi.kept-formed .address (m .state .pc) h)
+keeps-the-psi-formed v (read w a k) m h =
+    keeps-the-psi-formed v (k (loaded w (m .memory) a)) (after-read a m) (Psi.kept-formed .address a h)
+keeps-the-psi-formed v (write w a x k) m h =
+    keeps-the-psi-formed v k (after-write w a x m) (Psi.kept-formed .address a h)
 keeps-the-psi-formed v (sense b k) m h =
     keeps-the-psi-formed v (k (Cru.sensed (m .state .psi) v b .value)) (after-sense v b m) (Psi.kept-formed .read v b h)
 keeps-the-psi-formed v (drive b x k) m h = keeps-the-psi-formed v k (after-drive b x m) (Psi.kept-formed .write b x h)

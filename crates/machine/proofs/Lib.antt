@@ -1,7 +1,10 @@
 pub mod Marked
 pub mod Told
+pub mod Selected
 pub mod Bind
 pub mod Laws
 pub mod Loads
 pub mod Flags
 pub mod Order
+pub mod Needed
+pub mod Refresh

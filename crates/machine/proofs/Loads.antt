@@ -29,7 +29,7 @@ use Rattle.alu.specs.declared.Pair.{Pair}
 use Rattle.machine.specs.State.{Registers, Machine}
 use Rattle.machine.specs.State as State
 use Rattle.machine.specs.Micro.{Target, to-wp, to-pc, to-st, to-flags, Micro, done, look, assign, fetch, read, write, sense, drive, _>>=_, registers, set, fetched, load, store, sensed, driven}
-use Rattle.machine.specs.Perform.{perform, after-assign, after-fetch, after-write, after-sense, after-drive}
+use Rattle.machine.specs.Perform.{perform, after-assign, after-fetch, after-read, after-write, after-sense, after-drive}
 use Rattle.machine.specs.Operands.{register, set-register, indexed, stepped, operand}
 use Rattle.machine.specs.Groups as G
 
@@ -135,7 +135,7 @@ flags-left v (assign to-pc x k) m h = flags-left v k (after-assign to-pc x m) (h
 flags-left v (assign to-st x k) m h = flags-left v k (after-assign to-st x m) (h .1)
 flags-left v (assign to-flags x k) m h = absurd (h .0)
 flags-left v (fetch k) m h = flags-left v (k (loaded Word (m .memory) (m .state .pc))) (after-fetch m) (h _)
-flags-left v (read w a k) m h = flags-left v (k (loaded w (m .memory) a)) m (h _)
+flags-left v (read w a k) m h = flags-left v (k (loaded w (m .memory) a)) (after-read a m) (h _)
 flags-left v (write w a x k) m h = flags-left v k (after-write w a x m) h
 flags-left v (sense b k) m h = flags-left v (k (Cru.sensed (m .state .psi) v b .value)) (after-sense v b m) (h _)
 flags-left v (drive b x k) m h = flags-left v k (after-drive b x m) h

@@ -10,7 +10,10 @@ pub mod Run
 pub mod Laws
 pub mod Flags
 pub mod Order
+pub mod Needed
+pub mod Refresh
 pub mod Rules
 pub mod Cases
 pub mod Marked
 pub mod Told
+pub mod Selected

@@ -11,7 +11,7 @@ use Rattle.isa.specs.declared.DualOp.{DualOp}
 use Rattle.isa.specs.declared.SingleOp.the-variants.{Abs}
 use Rattle.alu.specs.Sums.{absolute}
 use Rattle.machine.specs.State.{Machine}
-use Rattle.machine.specs.Perform.{Performed, perform, even, Access, was-read, was-written, accesses}
+use Rattle.machine.specs.Perform.{Performed, perform, even, Access, was-read, was-written, after-read, accesses}
 use Rattle.machine.specs.Operands.{register-at, operand}
 use Rattle.machine.specs.Groups.{dual, dual-effect, single-effect, switch, switch-by-number, return}
 
@@ -23,7 +23,10 @@ Dual-in-order =
   where
     -- from the source's address on
     rest : ℕ → DualOp → Width → Operand → Performed ℕ → List Access
-    rest v op w d from = was-read w (from .value) ∷ (accesses v (operand w d) (from .machine) ++ last v op w (loaded w (from .machine .memory) (from .value)) (perform v (operand w d) (from .machine)))
+    rest v op w d from =
+        was-read w (from .value)
+        ∷ (accesses v (operand w d) (after-read (from .value) (from .machine))
+        ++ last v op w (loaded w (from .machine .memory) (from .value)) (perform v (operand w d) (after-read (from .value) (from .machine))))
       where
         -- from the destination's address on
         last : ℕ → DualOp → Width → ℕ → Performed ℕ → List Access

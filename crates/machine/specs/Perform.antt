@@ -1,5 +1,5 @@
 -- What a microprogram does to a machine, and which accesses it makes, at given pin levels.
-use Prim.Native.Nat.{ℕ, zero, suc, _+_, _*_, _/_, _%_}
+use Prim.Native.Nat.{ℕ, suc, _+_, _*_, _/_, _%_}
 use mathlib.Core.Bool.{Bool}
 use mathlib.Core.List.{List, [], _∷_, _++_}
 use Rattle.memory.specs.declared.Width.{Width}
@@ -30,15 +30,23 @@ assigned to-pc x s = with-pc (even x) s
 assigned to-st x s = with-st (x % 65536) s
 assigned to-flags x s = with-flags (x % 4) s
 
+-- Document 02, Q-4: an access to memory whose byte address has weight 32 refreshes the PSI's read register.
+abbrev pub addressed : ℕ → State → State
+addressed a s = with-psi (Cru.addressed a (s .psi)) s
+
 -- the machine after each kind of access
 abbrev pub after-assign : Target → ℕ → Machine → Machine
 after-assign t x m = record { state = assigned t x (m .state); memory = m .memory }
 
 abbrev pub after-fetch : Machine → Machine
-after-fetch m = record { state = with-pc ((m .state .pc + 2) % 65536) (m .state); memory = m .memory }
+after-fetch m =
+    record { state = with-pc ((m .state .pc + 2) % 65536) (addressed (m .state .pc) (m .state)); memory = m .memory }
+
+abbrev pub after-read : ℕ → Machine → Machine
+after-read a m = record { state = addressed a (m .state); memory = m .memory }
 
 abbrev pub after-write : Width → ℕ → ℕ → Machine → Machine
-after-write w a x m = record { state = m .state; memory = stored w (m .memory) a x }
+after-write w a x m = record { state = addressed a (m .state); memory = stored w (m .memory) a x }
 
 abbrev pub after-sense : ℕ → CruBit → Machine → Machine
 after-sense v b m = record { state = with-psi (Cru.sensed (m .state .psi) v b .psi) (m .state); memory = m .memory }
@@ -52,7 +60,7 @@ perform v (done a) m = record { value = a; machine = m }
 perform v (look k) m = perform v (k (registers (m .state))) m
 perform v (assign t x k) m = perform v k (after-assign t x m)
 perform v (fetch k) m = perform v (k (loaded Word (m .memory) (m .state .pc))) (after-fetch m)
-perform v (read w a k) m = perform v (k (loaded w (m .memory) a)) m
+perform v (read w a k) m = perform v (k (loaded w (m .memory) a)) (after-read a m)
 perform v (write w a x k) m = perform v k (after-write w a x m)
 perform v (sense b k) m = perform v (k (Cru.sensed (m .state .psi) v b .value)) (after-sense v b m)
 perform v (drive b x k) m = perform v k (after-drive b x m)
@@ -71,7 +79,7 @@ accesses v (done a) m = []
 accesses v (look k) m = accesses v (k (registers (m .state))) m
 accesses v (assign t x k) m = accesses v k (after-assign t x m)
 accesses v (fetch k) m = was-fetched (m .state .pc) ∷ accesses v (k (loaded Word (m .memory) (m .state .pc))) (after-fetch m)
-accesses v (read w a k) m = was-read w a ∷ accesses v (k (loaded w (m .memory) a)) m
+accesses v (read w a k) m = was-read w a ∷ accesses v (k (loaded w (m .memory) a)) (after-read a m)
 accesses v (write w a x k) m = was-written w a x ∷ accesses v k (after-write w a x m)
 accesses v (sense b k) m = was-sensed b ∷ accesses v (k (Cru.sensed (m .state .psi) v b .value)) (after-sense v b m)
 accesses v (drive b x k) m = was-driven b x ∷ accesses v k (after-drive b x m)

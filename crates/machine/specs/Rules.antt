@@ -48,7 +48,7 @@ unfolding Cru.first-bit Cru.beyond Cru.displaced
 cru-bits = tt
 
 unfoldable pub cru-table : Unit {0}
-unfolding Cru.timed-value Cru.sensed-value Cru.sensed Cru.controlled Cru.masked Cru.timed Cru.latched Cru.driven
+unfolding Cru.timed-value Cru.sensed-value Cru.selected Cru.addressed Cru.sensed Cru.controlled Cru.masked Cru.timed Cru.latched Cru.written Cru.driven
 cru-table = tt
 
 unfoldable pub operations : Unit {0}

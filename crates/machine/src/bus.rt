@@ -1,5 +1,6 @@
-// Accesses to the lent memory. Each takes the state and hands it back, and is one access of a microprogram. A state of which one
-// part changes is written anew, field by field: with one field assigned, the compiler packs the others into wide words and waits for them.
+// Accesses to the lent memory, which the PSI sees too. Each takes the state and hands it back, and is one access of a microprogram.
+// A state of which one part changes is written anew, field by field: with one field assigned, the compiler packs the others into wide
+// words and waits for them.
 ghost use mathlib.Core.Path.{_≡_};
 ghost use Prim.Native.Nat.{ℕ};
 ghost use mathlib.Core.List.{List};
@@ -24,10 +25,9 @@ pub fn load(bytes: &[u8], state: State, width: Width, address: u16) -> Loaded
     requires { ⌜ Installed (now bytes) ⌝ }
     ensures { λ r. ⌜ ((v : ℕ) → perform v (Micro.load width address) (at state (now (bytes .entry))) ≡ performed (r .value) (at (r .state) (now (bytes .entry)))) ⌝ }
 {
-    Loaded {
-        value: memory::load(bytes, width, address),
-        state,
-    }
+    let seen = state.addressed(address);
+    let value = memory::load(bytes, width, address);
+    Loaded { value, state: seen }
 }
 
 // Stores a byte or a word at this address.
@@ -35,8 +35,9 @@ pub fn store(bytes: &mut [u8], state: State, width: Width, address: u16, value: 
     requires { ⌜ Installed (now bytes) ⌝ }
     ensures { λ r. ⌜ ((v : ℕ) → perform v (Micro.store width address value) (at state (now (bytes .entry))) ≡ performed tt (at r (now (bytes .exit)))) ⌝ }
 {
+    let after = state.addressed(address);
     memory::store(bytes, width, address, value);
-    state
+    after
 }
 
 // The word at PC, which rises by 2.
@@ -45,7 +46,8 @@ pub fn fetch(bytes: &[u8], state: State) -> Loaded
     ensures { λ r. ⌜ ((v : ℕ) → perform v Micro.fetched (at state (now (bytes .entry))) ≡ performed (r .value) (at (r .state) (now (bytes .entry)))) ⌝ }
 {
     let pc = state.pc;
-    let psi = state.psi;
+    let before = state.psi;
+    let psi = before.addressed(pc);
     let value = memory::load(bytes, Width::Word, pc);
     let after = State {
         wp: state.wp,

@@ -1,6 +1,7 @@
 // The machine's state, and in specs/ all definitions of what the machine does.
 ghost use mathlib.Core.Path.{_≡_};
 ghost use Rattle.machine.specs.State as Own;
+ghost use Rattle.machine.specs.Perform as Perform;
 use psi::Psi;
 
 pub mod bus;
@@ -89,6 +90,15 @@ impl State {
             flags: self.flags,
             psi,
         }
+    }
+
+    // The same after an access to memory at this byte address, which the PSI sees.
+    pub fn addressed(self, address: u16) -> State
+        ensures { λ r. ⌜ r ≡ Perform.addressed address self ⌝ }
+    {
+        let before = self.psi;
+        let psi = before.addressed(address);
+        self.with_psi(psi)
     }
 
     // WP and PC even, flags at most 2, and the PSI's fields in order.
