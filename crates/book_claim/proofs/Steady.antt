@@ -11,7 +11,7 @@ use Rattle.machine.specs.declared.State.{State}
 use Rattle.machine.specs.State.{Machine}
 use Rattle.machine.specs.State as Own
 use Rattle.machine.specs.Micro.{Target, to-wp, to-pc, to-st, to-flags, Micro, done, look, assign, fetch, read, write, sense, drive}
-use Rattle.machine.specs.Perform.{perform, accesses, fetches, after-assign, after-fetch, after-write, after-sense, after-drive}
+use Rattle.machine.specs.Perform.{perform, accesses, fetches, after-assign, after-fetch, after-read, after-write, after-sense, after-drive}
 use Rattle.machine.proofs.Loads.{Loads}
 
 -- the flags alone: WP, PC and ST are never loaded
@@ -47,8 +47,13 @@ held v (fetch k) m q h =
     let x : ℕ = loaded Word (m .memory) (m .state .pc) in
     let r = held v (k x) (after-fetch m) (q x) (omega arith) in
     record { wp = r .wp; pc = omega arith; st = r .st }
-held v (read w a k) m q h = held v (k (loaded w (m .memory) a)) m (q (loaded w (m .memory) a)) h
-held v (write w a x k) m q h = held v k (after-write w a x m) q h
+held v (read w a k) m q h =
+    let x : ℕ = loaded w (m .memory) a in
+    let r = held v (k x) (after-read a m) (q x) h in
+    record { wp = r .wp; pc = r .pc; st = r .st }
+held v (write w a x k) m q h =
+    let r = held v k (after-write w a x m) q h in
+    record { wp = r .wp; pc = r .pc; st = r .st }
 held v (sense b k) m q h =
     let x : Bool = Cru.sensed (m .state .psi) v b .value in
     let r = held v (k x) (after-sense v b m) (q x) h in

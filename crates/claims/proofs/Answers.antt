@@ -33,7 +33,7 @@ use Rattle.machine.specs.Run.{Ran, one-more, runs, run-refusal, RunResult, run}
 use Rattle.run_rules.proofs.Laws.{latest-answer, goes-on}
 use Rattle.machine.proofs.Bind.{perform-bind, perform-done, perform-registers}
 use Rattle.claims.specs.Interrupts.{at-step}
-use Rattle.claims.specs.Words.{found, word-found}
+use Rattle.claims.specs.Words.{found}
 use Rattle.claims.specs.Answers.{Steps-answer, Unassigned-tells-the-pc, meets-by, meets, executing, Idle-steps, Executing-steps, Last-step, Nothing-exactly, Last-level-in-range}
 use Rattle.claims.proofs.Interrupts.{step-is, levels-in-range}
 use Rattle.claims.proofs.Runs.{every-run, runs-at-most, result, accepted-runs, refused-runs, fit-accepted, ready}
@@ -81,7 +81,7 @@ module _ (pc v : ℕ) where
   executes zero w m = by-instruction (again zero) (λ o. true) m (λ o. refl) (decoded w)
   executes (suc k) w m =
       by-instruction (again (suc k)) _ m
-      (λ o. rw (perform-bind, perform-bind) (executes k (word-found v m o) (found v m o .machine)))
+      (λ o. rw perform-bind (executes k (found v m o .value) (found v m o .machine)))
       (decoded w)
 
 -- the step that was done is the latest, so it answers something

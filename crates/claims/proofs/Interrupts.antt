@@ -139,7 +139,7 @@ taken-boundary v pc load m = rw (perform-bind, perform-done)
 taken-boundary v pc (level k) m = rw (perform-bind, perform-done)
 taken-boundary v pc none m = proceeds v pc m
 
-taken-step : (word : ℕ) (m : Machine) → taken (answer word m) ≡ at-step word m
+pub taken-step : (word : ℕ) (m : Machine) → taken (answer word m) ≡ at-step word m
 unfolding answer as-told
 taken-step word m = rw step-is (taken-boundary _ (m .state .pc) (at-step word m) _)
 

@@ -1,3 +1,5 @@
+pub mod Clock
+pub mod Refresh
 pub mod Entries
 pub mod Interrupts
 pub mod Runs

@@ -10,7 +10,6 @@ use lib.Dec.{eqb, leb}
 use Rattle.bits.specs.Bits.{if_then_else_, bit}
 use Rattle.memory.specs.declared.Width.{Width}
 use Rattle.memory.specs.declared.Width.the-variants.{Word}
-use Rattle.memory.specs.Memory.{loaded}
 use Rattle.psi.specs.declared.CruBit.{CruBit}
 use Rattle.psi.proofs.Cases.{either-way}
 use Rattle.isa.specs.declared.Operand.{Operand}
@@ -38,11 +37,11 @@ use Rattle.alu.specs.declared.Pair.{Pair}
 use Rattle.alu.specs.Status.{jumps}
 use Rattle.machine.specs.State.{Machine}
 use Rattle.machine.specs.Micro.{Micro, Target, done, _>>=_, _>>_, registers, set, fetched, load, store, sensed, driven}
-use Rattle.machine.specs.Perform.{perform, performed, accesses, fetches}
+use Rattle.machine.specs.Perform.{perform, accesses, fetches}
 use Rattle.machine.specs.Operands.{register, set-register, indexed, stepped, operand}
 use Rattle.machine.specs.Groups as G
 use Rattle.machine.specs.Execute.{instruction, again, execute}
-use Rattle.machine.proofs.Bind.{perform-bind, accesses-bind, fetches-append}
+use Rattle.machine.proofs.Bind.{accesses-bind, fetches-append}
 use Rattle.claims.specs.Words.{words, counted, Announced-words-are-fetched, executed, Executed-words-are-fetched}
 
 pub words-bind :
@@ -338,11 +337,6 @@ announced-words-are-fetched v again Limi m = rw (then-done, of-load-mask)
 announced-words-are-fetched v again (Control op) m = rw (then-done, of-command)
 announced-words-are-fetched v again Unassigned m = of-done v _ m
 
--- X loads the word at its operand's address
-pub perform-load : (v : ℕ) (w : Width) (a : ℕ) (m : Machine) → perform v (load w a) m ≡ performed (loaded w (m .memory) a) m
-unfolding perform load
-perform-load v w a m = refl
-
 counted-same : (f g : Operand → ℕ) (i : Instruction) → ((o : Operand) → f o ≡ g o) → counted f i ≡ counted g i
 counted-same f g i e = ap (λ h. counted h i) (fun-ext e)
 
@@ -353,4 +347,4 @@ executed-words-are-fetched v zero w m =
 executed-words-are-fetched v (suc k) w m =
     announced-words-are-fetched v _ (decoded w) m
     ∙ counted-same _ _ (decoded w)
-    (λ o. rw (words-bind, words-bind, of-operand, of-load, perform-bind, perform-load, add-zero) (ap (operand-words o +_) (executed-words-are-fetched v k _ _)))
+    (λ o. rw (words-bind, words-bind, of-operand, of-load, add-zero) (ap (operand-words o +_) (executed-words-are-fetched v k _ _)))

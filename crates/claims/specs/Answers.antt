@@ -24,7 +24,7 @@ use Rattle.machine.specs.Step.{clocked}
 use Rattle.machine.specs.Answer.{answer}
 use Rattle.machine.specs.Run.{run}
 use Rattle.claims.specs.Interrupts.{at-step}
-use Rattle.claims.specs.Words.{found, word-found}
+use Rattle.claims.specs.Words.{found}
 
 -- The level of an answer is 1 to 4.
 abbrev pub Levels-in-range : Type 0
@@ -62,7 +62,7 @@ meets-by f isa.Unassigned = true
 -- the allowance is one
 unfoldable pub meets : ℕ → ℕ → ℕ → Machine → Bool
 meets zero v w m = meets-by (λ o. true) (decoded w)
-meets (suc k) v w m = meets-by (λ o. meets k v (word-found v m o) (found v m o .machine)) (decoded w)
+meets (suc k) v w m = meets-by (λ o. meets k v (found v m o .value) (found v m o .machine)) (decoded w)
 
 -- at a step's boundary neither reset nor LOAD nor a level is taken
 abbrev pub Not-entered : ℕ → Machine → Type 0

@@ -3,3 +3,4 @@ pub mod Interrupts
 pub mod Answers
 pub mod Runs
 pub mod Words
+pub mod Refresh

@@ -2,14 +2,13 @@
 use Prim.Native.Nat.{ℕ, zero, suc, _+_}
 use mathlib.Core.Path.{_≡_}
 use Rattle.memory.specs.declared.Width.the-variants.{Word}
-use Rattle.memory.specs.Memory.{loaded}
 use Rattle.isa.specs.declared.Operand.{Operand}
 use Rattle.isa.specs.declared.Instruction.{Instruction}
 use Rattle.isa.specs.declared.Instruction.the-variants.{Dual, Register, Xop, Transfer, Bit, Jump, Shift, Single, Blwp, X, Immediate, Stwp, Stst, Lwpi, Limi, Control, Unassigned}
 use Rattle.isa.specs.Isa.{decoded, further-words}
 use Rattle.machine.specs.declared.Deed.{Deed}
 use Rattle.machine.specs.State.{Machine}
-use Rattle.machine.specs.Micro.{Micro}
+use Rattle.machine.specs.Micro.{Micro, _>>=_, load}
 use Rattle.machine.specs.Perform.{Performed, perform, accesses, fetches}
 use Rattle.machine.specs.Operands.{operand}
 use Rattle.machine.specs.Execute.{instruction, execute}
@@ -44,19 +43,16 @@ Announced-words-are-fetched =
     (v : ℕ) (again : Operand → Micro Deed) (i : Instruction) (m : Machine)
     → words v (instruction again i) m ≡ counted (λ o. words v (again o) m) i
 
--- X's operand: its address and the machine then, and the word there, which X executes
+-- the word at the address of X's operand, which X executes, and the machine then
 abbrev pub found : ℕ → Machine → Operand → Performed ℕ
-found v m o = perform v (operand Word o) m
-
-abbrev pub word-found : ℕ → Machine → Operand → ℕ
-word-found v m o = loaded Word (found v m o .machine .memory) (found v m o .value)
+found v m o = perform v (operand Word o >>= load Word) m
 
 -- the further words of a word that is executed: X takes those announced for it, and then those of the word that it executes, with
 -- one X fewer allowed; an X beyond the allowance takes none
 unfoldable pub executed : ℕ → ℕ → ℕ → Machine → ℕ
 executed zero v w m = counted (λ o. 0) (decoded w)
 executed (suc k) v w m =
-    counted (λ o. further-words (X o) + executed k v (word-found v m o) (found v m o .machine)) (decoded w)
+    counted (λ o. further-words (X o) + executed k v (found v m o .value) (found v m o .machine)) (decoded w)
 
 -- Executing a word fetches those words.
 abbrev pub Executed-words-are-fetched : Type 0

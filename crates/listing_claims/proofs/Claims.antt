@@ -15,9 +15,8 @@ use Rattle.machine.specs.declared.Deed.{Deed}
 use Rattle.machine.specs.Micro.{Micro, _>>=_, fetched}
 use Rattle.machine.specs.Perform.{perform, after-fetch}
 use Rattle.machine.specs.Execute.{instruction, execute-by, again, execute}
-use Rattle.machine.proofs.Bind.{perform-bind}
 use Rattle.claims.specs.Words.{words, counted}
-use Rattle.claims.proofs.Words.{words-bind, of-fetched, of-load, of-operand, perform-load, announced-words-are-fetched}
+use Rattle.claims.proofs.Words.{words-bind, of-fetched, of-load, of-operand, announced-words-are-fetched}
 use Rattle.listing.specs.Listing.{word-count, words-at}
 use Rattle.listing.proofs.Longest.{line-short}
 use Rattle.listing_claims.specs.Claims.{for-x, executed-by-x, Lines-fit, Word-count-is-fetched}
@@ -65,7 +64,7 @@ first-too v again m = words-bind v fetched (execute-by again) m ∙ rw (of-fetch
 -- X takes its operand's words, and then those of the word that it executes
 x-words : (v k : ℕ) (m : Machine) (o : Operand) → words v (again (suc k) o) m ≡ further-words (X o) + executed-by-x v k m o
 unfolding again execute executed-by-x further-words
-x-words v k m o = rw (words-bind, words-bind, of-operand, of-load, perform-bind, perform-load, add-zero)
+x-words v k m o = rw (words-bind, words-bind, of-operand, of-load, add-zero)
 
 pub word-count-is-fetched : Word-count-is-fetched
 unfolding execute

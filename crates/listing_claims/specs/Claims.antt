@@ -13,7 +13,7 @@ use Rattle.machine.specs.State.{Machine}
 use Rattle.machine.specs.Micro.{_>>=_, fetched}
 use Rattle.machine.specs.Perform.{after-fetch}
 use Rattle.machine.specs.Execute.{execute}
-use Rattle.claims.specs.Words.{words, found, word-found}
+use Rattle.claims.specs.Words.{words, found}
 use Rattle.listing.specs.Listing.{line-at, word-count, least-buffer}
 
 -- Every line fits the smallest buffer.
@@ -40,9 +40,9 @@ for-x f Limi = 0
 for-x f (Control o) = 0
 for-x f Unassigned = 0
 
--- the words of what X executes, from where its operand's address is known: the word there, with one X fewer allowed
+-- the words of what X executes: the word at its operand's address, once that is read, with one X fewer allowed
 unfoldable pub executed-by-x : ℕ → ℕ → Machine → Operand → ℕ
-executed-by-x v k m o = words v (execute k (word-found v m o)) (found v m o .machine)
+executed-by-x v k m o = words v (execute k (found v m o .value)) (found v m o .machine)
 
 -- The instruction at the PC fetches as many words as are reported for it, its first included; where it is X, those of the word that
 -- it executes come on top. (Not more is said of them: an instruction may store over its own further words before it fetches them.)
