@@ -8,7 +8,7 @@ pub const MEMORY_SIZE: usize = 16384;
 
 pub type Memory = [u8; MEMORY_SIZE];
 
-/// How the processor touches a memory address.
+/// How the processor touches a memory address or a CRU bit.
 #[derive(Clone, Copy, Debug, PartialEq, Eq)]
 pub enum Access {
     /// An instruction word or a further word of it, at the PC.
@@ -18,6 +18,8 @@ pub enum Access {
     ReadByte,
     WriteWord,
     WriteByte,
+    ReadCru,
+    WriteCru,
 }
 
 pub struct Bus<'m> {
@@ -25,7 +27,7 @@ pub struct Bus<'m> {
     pub psi: Psi,
     /// The current step's pin record.
     pub pins: Pins,
-    /// What was touched, in order.
+    /// What was touched, in order: addresses, and the numbers of CRU bits.
     #[cfg(test)]
     pub touched: Vec<(Access, u16)>,
 }
@@ -41,12 +43,14 @@ impl<'m> Bus<'m> {
         }
     }
 
-    /// Every memory access comes here first, with its full 16-bit address.
-    /// Memory addresses do not affect the PSI, so there is nothing to do.
+    /// Every memory access comes here first, with its full 16-bit address: the
+    /// PSI's input S0 sees a line of it. Of a word access the address may be odd,
+    /// which that line does not tell.
     #[inline(always)]
-    fn touch(&mut self, _access: Access, _address: u16) {
+    fn touch(&mut self, _access: Access, address: u16) {
+        self.psi.see_address(address);
         #[cfg(test)]
-        self.touched.push((_access, _address));
+        self.touched.push((_access, address));
     }
 
     /// Reads an instruction word, or a further word of it, at the PC.
@@ -85,10 +89,14 @@ impl<'m> Bus<'m> {
     }
 
     pub fn read_cru(&mut self, bit: CruBit) -> bool {
+        #[cfg(test)]
+        self.touched.push((Access::ReadCru, bit.number()));
         self.psi.read_bit(bit, self.pins)
     }
 
     pub fn write_cru(&mut self, bit: CruBit, value: bool) {
+        #[cfg(test)]
+        self.touched.push((Access::WriteCru, bit.number()));
         self.psi.write_bit(bit, value);
     }
 }

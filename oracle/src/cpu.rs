@@ -205,7 +205,8 @@ impl<'m> Machine<'m> {
 
     // ---- entries ----
 
-    /// The reset entry. It leaves the PSI alone.
+    /// The reset entry. Of the PSI it changes only what its accesses show: the
+    /// read register.
     pub fn reset(&mut self) {
         self.enter(RESET_VECTOR);
         self.st = 0;

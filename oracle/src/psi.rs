@@ -44,6 +44,11 @@ impl CruBit {
     pub fn number(self) -> u16 {
         self.0
     }
+
+    /// The address that is on the bus for it: bit numbers count by two there.
+    fn address(self) -> u16 {
+        2 * self.0
+    }
 }
 
 /// The PSI's registers, each as the image's word.
@@ -65,6 +70,10 @@ pub struct Psi {
 }
 
 const CONTROL: u16 = 1;
+
+/// The address line that the input S0 hangs on. Of the PSI's own CRU bits it is
+/// set for the ports, 16 to 31.
+const S0: u16 = 32;
 
 impl Psi {
     /// CRU bits the PSI has, from bit 0.
@@ -169,26 +178,37 @@ impl Psi {
         }
     }
 
+    // ---- S0 ----
+
+    /// What an access does by its address alone, be it of memory or CRU: with S0
+    /// set the PSI leaves clock mode for a moment, and the read register takes
+    /// the clock's value. Control stays as it is.
+    #[inline(always)]
+    pub fn see_address(&mut self, address: u16) {
+        if address & S0 != 0 {
+            self.refresh_read_register();
+        }
+    }
+
     // ---- CRU ----
 
     /// Reads a CRU bit; bits that are not the PSI's read 1.
     pub fn read_bit(&mut self, bit: CruBit, pins: Pins) -> bool {
+        self.see_address(bit.address());
         let n = u32::from(bit.number());
         match n {
             0 => self.control(),
             1..=15 if !self.control() => self.interrupt_levels(pins) >> n & 1 != 0,
             1..=14 => self.read_register >> (n - 1) & 1 != 0,
             15 => self.enabled_requests(pins) != 0,
-            16..=31 => {
-                self.refresh_read_register();
-                self.port_level(n - 16, pins)
-            }
+            16..=31 => self.port_level(n - 16, pins),
             _ => true,
         }
     }
 
-    /// Writes a CRU bit; bits that are not the PSI's ignore it.
+    /// Writes a CRU bit; bits that are not the PSI's ignore the value.
     pub fn write_bit(&mut self, bit: CruBit, value: bool) {
+        self.see_address(bit.address());
         let n = u32::from(bit.number());
         match n {
             0 => {
@@ -215,7 +235,6 @@ impl Psi {
                 }
             }
             16..=31 => {
-                self.refresh_read_register();
                 put_bit(&mut self.latches, n - 16, value);
                 put_bit(&mut self.directions, n - 16, true);
             }

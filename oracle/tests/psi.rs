@@ -600,11 +600,19 @@ fn bits_that_are_not_the_psis() {
         ..Psi::BLANK
     };
     for n in 32..2048u16 {
+        // Weight 16 of the bit number is S0; nothing else is seen of the access.
+        let after = Psi {
+            read_register: if n / 16 % 2 == 1 { 8 } else { 5 },
+            ..before
+        };
         let mut psi = before;
         assert!(psi.read_bit(bit(n), Pins(0)));
-        psi.write_bit(bit(n), true);
-        psi.write_bit(bit(n), false);
-        assert_eq!(psi, before);
+        assert_eq!(psi, after);
+        for value in [false, true] {
+            let mut psi = before;
+            psi.write_bit(bit(n), value);
+            assert_eq!(psi, after);
+        }
     }
 }
 
@@ -849,14 +857,4 @@ fn reads_of_ports_refresh_the_read_register_in_clock_mode() {
         b.step();
         assert_eq!(b.state.psi.read_register, 0);
     }
-}
-
-#[test]
-fn memory_addresses_do_not_affect_the_psi() {
-    let mut b = Bench::with(&[0xC820, 0x003E, 0x0020]);
-    b.state.psi.control_and_masks = 1;
-    b.state.psi.decrementer = 55;
-    let psi = b.state.psi;
-    b.step();
-    assert_eq!(b.state.psi, psi);
 }

@@ -52,12 +52,16 @@ fn instruction(seeds: &mut Seeds) -> u16 {
     }
 }
 
-/// A word of the program's theme: X, the CRU, or any.
+/// The theme that reads the clock.
+pub const CLOCK: u16 = 4;
+
+/// A word of the program's theme: X, the CRU, STCR of 14 bits, or any.
 fn favoured(seeds: &mut Seeds, theme: u16) -> u16 {
     match theme {
         1 => 0x0480 + seeds.below(64),
         2 => 0x3000 + seeds.below(2048),
         3 => single_cru_bit(seeds),
+        CLOCK => 0x3780 + seeds.below(64),
         _ => address(seeds),
     }
 }
@@ -78,9 +82,8 @@ fn next(seeds: &mut Seeds, before: u16, theme: u16) -> u16 {
     }
 }
 
-/// Fills the memory with a program.
-pub fn fill(memory: &mut Memory, seeds: &mut Seeds) {
-    let theme = seeds.below(4);
+/// Fills the memory with a program of a theme.
+pub fn fill(memory: &mut Memory, seeds: &mut Seeds, theme: u16) {
     let mut word = 0;
     for address in (0..MEMORY_SIZE).step_by(2) {
         word = next(seeds, word, theme);

@@ -1,18 +1,29 @@
 //! Runs of generated programs and of any bytes, with pin records, stop addresses
 //! and refused calls. What each step was is asked in single steps on a copy.
+//! Then single steps in clock mode, which tell where the read register moves.
 
 use std::fmt::Write;
 
-use super::{address, fill, programs, record, spoiled, state, sum_of, Sum, WAYS};
+use super::{address, address_of, fill, programs, put_word, record, spoiled, state, sum_of, Sum, WAYS};
 use crate::seeds::Seeds;
 use crate::{power_up, run, Answer, Memory, State, MEMORY_SIZE};
 
+/// Lines of the first section.
 const LINES: u32 = 128;
 /// Memories of a line.
 const MEMORIES: u32 = 16;
 /// Calls on a memory.
 const CALLS: u32 = 8;
 const RECORDS: usize = 1024;
+
+/// Lines of the section in clock mode.
+const CLOCK_LINES: u32 = 64;
+/// Memories of one of these lines.
+const CLOCK_MEMORIES: u32 = 8;
+/// Cases on one of these memories.
+const CASES: u32 = 32;
+/// Single steps of a case.
+const STEPS: usize = 24;
 
 /// A stop address: odd, anywhere, or at or soon after `pc`.
 fn stop(seeds: &mut Seeds, pc: u16) -> u16 {
@@ -42,6 +53,12 @@ fn run_refused(memory: &mut Memory, seeds: &mut Seeds, state: State, records: &[
         3 => run(memory, bad, records, many, 1),
         _ => run(memory, state, records, many, 1),
     }
+}
+
+/// The records of a memory.
+fn records(seeds: &mut Seeds) -> Vec<u32> {
+    let quiet = 4 << seeds.below(5);
+    (0..RECORDS).map(|_| record(seeds, quiet)).collect()
 }
 
 /// What the calls of a line came to.
@@ -97,10 +114,10 @@ impl Course {
         if seeds.once_in(4) {
             fill(memory, seeds);
         } else {
-            programs::fill(memory, seeds);
+            let theme = seeds.below(4);
+            programs::fill(memory, seeds, theme);
         }
-        let quiet = 4 << seeds.below(5);
-        let records: Vec<u32> = (0..RECORDS).map(|_| record(seeds, quiet)).collect();
+        let records = records(seeds);
         let mut at = if seeds.once_in(4) {
             power_up(memory).state
         } else if seeds.once_in(2) {
@@ -117,6 +134,76 @@ impl Course {
             if answer.number == Answer::ACCEPTED {
                 at = answer.state;
             }
+        }
+        self.sum.mix_bytes(memory);
+    }
+}
+
+/// An even address: the first or the middle of 64 bytes, where its weight 32
+/// begins, or any.
+fn place(seeds: &mut Seeds) -> u16 {
+    let base = seeds.word() / 64 * 64;
+    match seeds.below(4) {
+        0 => base,
+        1 => base + 32,
+        _ => base + seeds.below(32) * 2,
+    }
+}
+
+/// A state in clock mode.
+fn clock_state(seeds: &mut Seeds) -> State {
+    let mut state = state(seeds, 0);
+    state.wp = place(seeds);
+    state.pc = place(seeds);
+    state.psi.read_register = seeds.below(16384);
+    state.psi.control_and_masks |= 1;
+    state
+}
+
+/// What the steps of a line in clock mode came to.
+#[derive(Default)]
+struct Reading {
+    sum: Sum,
+    /// Steps that stayed in clock mode and moved the read register.
+    moved: u32,
+    /// Steps that stayed in clock mode and left it, with another value than the
+    /// decrementer's.
+    frozen: u32,
+}
+
+impl Reading {
+    fn follow(&mut self, before: &State, answer: &Answer) {
+        let after = &answer.state;
+        self.sum.mix_step(answer.last);
+        self.sum.mix_state(after);
+        if before.psi.control() && after.psi.control() {
+            if after.psi.read_register != before.psi.read_register {
+                self.moved += 1;
+            } else if after.psi.read_register != after.psi.decrementer {
+                self.frozen += 1;
+            }
+        }
+    }
+
+    /// One case. STCR begins at the clock's lowest bit, as long as R12 stays.
+    fn case(&mut self, memory: &mut Memory, seeds: &mut Seeds, records: &[u32]) {
+        let mut at = clock_state(seeds);
+        put_word(memory, address_of(at.wp, 12), 2);
+        let from = usize::from(seeds.below(256));
+        for i in from..from + STEPS {
+            let answer = run(memory, at, &records[i..], 1, 1);
+            assert_eq!((answer.number, answer.steps), (Answer::ACCEPTED, 1));
+            self.follow(&at, &answer);
+            at = answer.state;
+        }
+    }
+
+    /// One memory: a program, its records, its cases, and what they leave.
+    fn one(&mut self, memory: &mut Memory, seeds: &mut Seeds) {
+        programs::fill(memory, seeds, programs::CLOCK);
+        let records = records(seeds);
+        for _ in 0..CASES {
+            self.case(memory, seeds, &records);
         }
         self.sum.mix_bytes(memory);
     }
@@ -154,6 +241,13 @@ pub fn expect() -> String {
             "{} {} {:08x}",
             course.steps, course.unassigned, course.sum.0
         );
+    }
+    for _ in 0..CLOCK_LINES {
+        let mut reading = Reading::default();
+        for _ in 0..CLOCK_MEMORIES {
+            reading.one(&mut memory, &mut seeds);
+        }
+        let _ = writeln!(text, "{} {} {:08x}", reading.moved, reading.frozen, reading.sum.0);
     }
     text
 }
