@@ -1,5 +1,5 @@
 // Runs of generated programs and of any bytes, with pin records and stop addresses, each also in single steps on a copy of the memory; and
-// refused calls; sums of the answer of every step and of what came of them.
+// refused calls; sums of the answer of every step and of what came of them. Then single steps in clock mode.
 ghost use mathlib.Core.Path.{_≡_};
 ghost use Prim.Native.Nat.{_<_, _≤_};
 ghost use lib.ListN.{length};
@@ -12,6 +12,7 @@ use seeds::lines;
 use seeds::spoiled;
 use seeds::states;
 
+mod clock_mode;
 mod programs;
 
 // Lines of the output, memories of a line, calls on a memory.
@@ -71,7 +72,8 @@ fn fill_memory(bytes: &mut [u8], seed: &mut u32)
         seeds::fill(bytes, seed);
         return;
     }
-    programs::fill(bytes, seed);
+    let theme = below(seed, 4);
+    programs::fill(bytes, seed, theme);
 }
 
 // A stop address: odd, anywhere, or at or soon after `pc`.
@@ -246,13 +248,18 @@ fn calls(
     now_at
 }
 
+// New records.
+fn renew_records(records: &mut [u32], seed: &mut u32) {
+    let pins = quiet(seed);
+    fill_records(records, seed, pins);
+}
+
 // New bytes and new records.
 fn renew(bytes: &mut [u8], seed: &mut u32, records: &mut [u32])
     requires { ⌜ Installed (now bytes) ⌝ }
 {
     fill_memory(bytes, seed);
-    let pins = quiet(seed);
-    fill_records(records, seed, pins);
+    renew_records(records, seed);
 }
 
 // One memory: its bytes, its records, its calls, and what they leave.
@@ -328,4 +335,5 @@ fn main() {
         line(&mut bytes, &mut copy, &mut seed, &mut records);
         n += 1;
     }
+    clock_mode::section(&mut bytes, &mut seed, &mut records);
 }

@@ -53,12 +53,16 @@ fn instruction(seed: &mut u32) -> u16 {
     }
 }
 
-// A word of the program's theme: X, the CRU, or any.
+// The theme that reads the clock.
+pub const CLOCK: u16 = 4;
+
+// A word of the program's theme: X, the CRU, STCR of 14 bits, or any.
 fn favoured(seed: &mut u32, theme: u16) -> u16 {
     match theme {
         1 => 0x0480 + below(seed, 64),
         2 => 0x3000 + below(seed, 2048),
         3 => 0x1D00 + below(seed, 3) * 256 + below(seed, 40),
+        CLOCK => 0x3780 + below(seed, 64),
         _ => states::address(seed),
     }
 }
@@ -77,11 +81,10 @@ fn next(seed: &mut u32, before: u16, theme: u16) -> u16 {
     instruction(seed)
 }
 
-// Fills the memory with a program.
-pub fn fill(bytes: &mut [u8], seed: &mut u32)
+// Fills the memory with a program of a theme.
+pub fn fill(bytes: &mut [u8], seed: &mut u32, theme: u16)
     requires { ⌜ Installed (now bytes) ⌝ }
 {
-    let theme = below(seed, 4);
     let mut before: u16 = 0;
     let mut i: u16 = 0;
     while i < 8192 {
