@@ -1,6 +1,7 @@
 -- The accesses are read off the definitions; those of a transfer's bits by induction on their number.
 use Prim.Native.Nat.{ℕ, zero, suc, _/_}
 use mathlib.Core.Path.{_≡_, refl, ap, _∙_}
+use mathlib.Core.Bool.{false}
 use native.Mathlib.Omega.{arith}
 use borrow.Author.Tests.{ne-eqb}
 use mathlib.Core.List.{[], _∷_, _++_, append-nil, append-assoc}
@@ -13,12 +14,12 @@ use Rattle.isa.specs.declared.Operand.{Operand}
 use Rattle.alu.specs.Status.{jumps}
 use Rattle.machine.specs.State.{Machine, idle}
 use Rattle.machine.specs.Micro.{Micro, _>>=_, registers, set, fetched, load, store, sensed, driven}
-use Rattle.machine.specs.Perform.{perform, accesses, was-sensed, was-driven}
+use Rattle.machine.specs.Perform.{perform, accesses, after-fetch, was-sensed, was-driven}
 use Rattle.machine.specs.Operands.{register, set-register, indexed, stepped, operand}
 use Rattle.machine.specs.Groups as G
-use Rattle.machine.specs.Execute.{again, execute}
+use Rattle.machine.specs.Execute.{again, execute, allowance}
 use Rattle.machine.specs.Step.{Kind, proceed}
-use Rattle.machine.specs.Needed.{sensed-from, driven-from, executed, Needed}
+use Rattle.machine.specs.Needed.{sensed-from, driven-from, executed, fetches, further, awake, Needed}
 use Rattle.machine.proofs.Bind.{perform-bind, accesses-bind}
 
 module _ (v : ℕ) where
@@ -38,8 +39,15 @@ x-in-order v k o m =
     accesses-bind v (operand Word o >>= load Word) (execute k) m
     ∙ rw (accesses-bind v (operand Word o) (load Word), perform-bind v (operand Word o) (load Word)) (append-assoc (accesses v (operand Word o) m) _ _)
 
+executing : (v : ℕ) (m : Machine) → bit idle (m .state .flags) ≡ false → accesses v proceed m ≡ fetches m ∷ accesses v (execute allowance (further m)) (after-fetch (awake m))
+unfolding accesses registers set fetched proceed
+executing v m h =
+    either-way (λ (p : Micro Kind). accesses v p m ≡ fetches m ∷ accesses v (execute allowance (further m)) (after-fetch (awake m))) (bit idle (m .state .flags))
+    (λ t. cc)
+    (λ f. ap (fetches m ∷_) (accesses-bind v (execute allowance (further m)) _ _ ∙ append-nil _))
+
 pub needed : Needed
-unfolding accesses registers set fetched load store sensed driven register set-register indexed stepped operand G.set-status G.conclude G.conclude-judged G.set-equal G.set-pair G.divide G.dual-effect G.register-effect G.cru-base G.load-cru G.store-cru G.bit-effect G.access-bit G.jump G.shift-count G.shift G.single-effect G.immediate-effect G.immediate-register G.immediate G.load-mask G.load-workspace G.store-status G.store-workspace G.switch G.switch-by-operand G.command again execute proceed
+unfolding accesses registers set fetched load store sensed driven register set-register indexed stepped operand G.set-status G.conclude G.conclude-judged G.set-equal G.set-pair G.divide G.dual-effect G.register-effect G.with-register G.cru-base G.load-cru G.store-cru G.bit-effect G.access-bit G.jump G.shift-count G.shift G.single-effect G.single G.immediate-effect G.immediate-register G.immediate G.load-mask G.load-workspace G.store-status G.store-workspace G.switch G.switch-by-operand G.command again execute proceed
 needed =
     record {
       direct = λ v w n m. refl;
@@ -53,6 +61,7 @@ needed =
       add = λ v w x a m. refl;
       mov = λ v w x a m. refl;
       soc = λ v w x a m. refl;
+      with-register = λ v op s n m. accesses-bind v (operand Word s) _ m;
       coc = λ v n x m. refl;
       czc = λ v n x m. refl;
       xor = λ v n x m. refl;
@@ -67,6 +76,7 @@ needed =
       jump = λ v op d m. either-way (λ (p : Micro (Unit {0})). accesses v p m ≡ []) (jumps op (m .state .st)) (λ t. refl) (λ f. refl);
       shift = λ v op n c m h. rw (ne-eqb c 0 (omega arith));
       shift-by-r0 = λ v op n m. refl;
+      single = λ v op o m. accesses-bind v (operand Word o) (G.single-effect op) m;
       b = λ v a m. refl;
       clr = λ v a m. refl;
       neg = λ v a m. refl;
@@ -95,5 +105,6 @@ needed =
       ckon = λ v m. refl;
       ckof = λ v m. refl;
       lrex = λ v m. refl;
+      executing-step = executing;
       idle-step = λ v m h. either-way (λ (p : Micro Kind). accesses v p m ≡ []) (bit idle (m .state .flags)) (λ t. refl) (λ f. cc);
     }

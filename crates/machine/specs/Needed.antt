@@ -1,11 +1,12 @@
 -- Document 02, Q-4: nothing is read whose value is not needed. What every form accesses, instruction by instruction; with the order of
--- dual forms, ABS, XOP, entries and RTWP (Order) these are all accesses of all instructions, after the fetch of their first word.
+-- dual forms, ABS, XOP, entries and RTWP (Order) these are all accesses of all instructions. Which form a word has (Execute.instruction)
+-- adds none.
 use Prim.Native.Nat.{ℕ, zero, suc, _+_, _/_, _%_, _<_}
 use mathlib.Core.Path.{_≡_}
 use mathlib.Core.Bool.{true, false}
 use mathlib.Core.List.{List, [], _∷_, _++_}
 use lib.Dec.{leb}
-use Rattle.bits.specs.Bits.{bit}
+use Rattle.bits.specs.Bits.{bit, put}
 use Rattle.bits.specs.Logic.{both, either, exclusive, without, inverted, swapped}
 use Rattle.memory.specs.declared.Width.{Width}
 use Rattle.memory.specs.declared.Width.the-variants.{Word}
@@ -14,7 +15,9 @@ use Rattle.psi.specs.declared.CruBit.{CruBit}
 use Rattle.psi.specs.Cru.{first-bit, beyond, displaced}
 use Rattle.isa.specs.declared.Operand.{Operand}
 use Rattle.isa.specs.declared.DualOp.the-variants.{Szc, S, C, A, Mov, Soc}
+use Rattle.isa.specs.declared.RegisterOp.{RegisterOp}
 use Rattle.isa.specs.declared.RegisterOp.the-variants.{Coc, Czc, Xor, Mpy, Div}
+use Rattle.isa.specs.declared.SingleOp.{SingleOp}
 use Rattle.isa.specs.declared.SingleOp.the-variants.{B, Clr, Neg, Inv, Inc, Inct, Dec, Dect, Bl, Swpb, Seto}
 use Rattle.isa.specs.declared.BitOp.the-variants.{Sbo, Sbz, Tb}
 use Rattle.isa.specs.declared.JumpOp.{JumpOp}
@@ -25,11 +28,12 @@ use Rattle.alu.specs.declared.Pair.{Pair}
 use Rattle.alu.specs.Sums.{sum, difference, negated}
 use Rattle.alu.specs.Shifts.{shifted}
 use Rattle.alu.specs.Products.{product, divided}
-use Rattle.machine.specs.State.{Machine, idle as idle-flag}
-use Rattle.machine.specs.Perform.{Performed, perform, after-read, Access, was-fetched, was-read, was-written, was-sensed, was-driven, accesses}
+use Rattle.machine.specs.State.{Machine, idle as idle-flag, no-sample}
+use Rattle.machine.specs.Micro.{to-flags}
+use Rattle.machine.specs.Perform.{Performed, perform, after-assign, after-fetch, after-read, Access, was-fetched, was-read, was-written, was-sensed, was-driven, accesses}
 use Rattle.machine.specs.Operands.{register-at, operand}
 use Rattle.machine.specs.Groups as G
-use Rattle.machine.specs.Execute.{again, execute}
+use Rattle.machine.specs.Execute.{again, execute, allowance}
 use Rattle.machine.specs.Step.{proceed}
 use Rattle.machine.specs.Order.{switching}
 
@@ -78,6 +82,12 @@ base m = first-bit (record { 0 = held 12 m })
 abbrev pub found : ℕ → ℕ → Machine → ℕ
 found v k m = perform v (G.sense-bits k (base m)) (after-read (place 12 m) m) .value
 
+-- COC, CZC, XOR, MPY and DIV from their source's address on: the source, and then what each does with its register
+abbrev pub with-source : ℕ → RegisterOp → ℕ → Performed ℕ → List Access
+with-source v op n from =
+    was-read Word (from .value)
+    ∷ accesses v (G.register-effect op n (loaded Word (from .machine .memory) (from .value))) (after-read (from .value) (from .machine))
+
 -- STCR from its operand's address on: R12, the bits, and the store; the operand is not read.
 abbrev pub stored-bits : ℕ → ℕ → Performed ℕ → List Access
 stored-bits v k to =
@@ -96,6 +106,10 @@ abbrev pub executed : ℕ → ℕ → Performed ℕ → List Access
 executed v k at =
     was-read Word (at .value)
     ∷ accesses v (execute k (loaded Word (at .machine .memory) (at .value))) (after-read (at .value) (at .machine))
+
+-- the machine once no-sample is cleared, before an instruction is fetched
+abbrev pub awake : Machine → Machine
+awake m = after-assign to-flags (put no-sample false (m .state .flags)) m
 
 pub record Needed : Type 0 where
   -- the address of Rn, *Rn, @a, @a(Rn) and *Rn+: Rn itself is not read for its address, and R0 is no index
@@ -122,6 +136,10 @@ pub record Needed : Type 0 where
       → accesses v (G.dual-effect A w x a) m ≡ rewrites w a (λ d. sum w d x (m .state .st) .value) m
   pub mov : (v : ℕ) (w : Width) (x a : ℕ) (m : Machine) → accesses v (G.dual-effect Mov w x a) m ≡ was-written w a x ∷ []
   pub soc : (v : ℕ) (w : Width) (x a : ℕ) (m : Machine) → accesses v (G.dual-effect Soc w x a) m ≡ rewrites w a (λ d. either d x) m
+  -- a register form takes its source's address and value first
+  pub with-register :
+      (v : ℕ) (op : RegisterOp) (s : Operand) (n : ℕ) (m : Machine)
+      → accesses v (G.with-register op s n) m ≡ accesses v (operand Word s) m ++ with-source v op n (perform v (operand Word s) m)
   -- with a source's value x and register n: COC and CZC store nothing; MPY reads its register whatever x is, and not the word after it; so
   -- does DIV, but where the quotient fits it then reads that word too
   pub coc : (v n x : ℕ) (m : Machine) → accesses v (G.register-effect Coc n x) m ≡ reads n m ∷ []
@@ -157,6 +175,12 @@ pub record Needed : Type 0 where
       (v : ℕ) (op : ShiftOp) (n : ℕ) (m : Machine)
       → accesses v (G.shift op n 0) m
       ≡ reads n m ∷ reads 0 m ∷ sets n (shifted op (held n m) (held 0 m) (m .state .st) .value) m ∷ []
+  -- a single form takes its operand's address first
+  pub single :
+      (v : ℕ) (op : SingleOp) (o : Operand) (m : Machine)
+      → accesses v (G.single op o) m
+      ≡ accesses v (operand Word o) m
+      ++ accesses v (G.single-effect op (perform v (operand Word o) m .value)) (perform v (operand Word o) m .machine)
   -- with an operand at a: B and BL do not read it, CLR and SETO only store
   pub b : (v a : ℕ) (m : Machine) → accesses v (G.single-effect B a) m ≡ []
   pub clr : (v a : ℕ) (m : Machine) → accesses v (G.single-effect Clr a) m ≡ was-written Word a 0 ∷ []
@@ -202,10 +226,15 @@ pub record Needed : Type 0 where
   pub stst : (v n : ℕ) (m : Machine) → accesses v (G.store-status n) m ≡ sets n (m .state .st) m ∷ []
   pub lwpi : (v : ℕ) (m : Machine) → accesses v G.load-workspace m ≡ fetches m ∷ []
   pub limi : (v : ℕ) (m : Machine) → accesses v G.load-mask m ≡ fetches m ∷ []
-  -- the control forms but RTWP access nothing, LREX no vector; an idle step not even the word at the PC
+  -- the control forms but RTWP access nothing, LREX no vector
   pub idle : (v : ℕ) (m : Machine) → accesses v (G.command Idle) m ≡ []
   pub rset : (v : ℕ) (m : Machine) → accesses v (G.command Rset) m ≡ []
   pub ckon : (v : ℕ) (m : Machine) → accesses v (G.command Ckon) m ≡ []
   pub ckof : (v : ℕ) (m : Machine) → accesses v (G.command Ckof) m ≡ []
   pub lrex : (v : ℕ) (m : Machine) → accesses v (G.command Lrex) m ≡ []
+  -- a step without an entry fetches the word at the PC and executes it; an idle one does not even fetch it
+  pub executing-step :
+      (v : ℕ) (m : Machine)
+      → bit idle-flag (m .state .flags) ≡ false
+      → accesses v proceed m ≡ fetches m ∷ accesses v (execute allowance (further m)) (after-fetch (awake m))
   pub idle-step : (v : ℕ) (m : Machine) → bit idle-flag (m .state .flags) ≡ true → accesses v proceed m ≡ []
