@@ -9,7 +9,7 @@ use Rattle.psi.specs.Pins.{parted}
 use Rattle.machine.specs.State.{Machine}
 use Rattle.machine.specs.Perform.{Access}
 use Rattle.machine.specs.Step.{step}
-use Rattle.machine.specs.Refresh.{all-seen, refreshes, some-refreshes, control-after, control-after-all, some-restarts}
+use Rattle.machine.specs.Refresh.{seen, all-seen, refreshes, some-refreshes, steady}
 use Rattle.book.specs.Book.{step-accesses}
 
 -- What the PSI is after a step comes of the clock and of the step's accesses alone.
@@ -33,5 +33,5 @@ Step-refreshed =
     (word : ℕ) (m : Machine) (before : List Access) (a : Access) (after : List Access)
     → step-accesses word m ≡ before ++ (a ∷ after)
     → refreshes a ≡ true
-    → some-restarts (control-after (control-after-all (control (m .state .psi)) before) a) after ≡ false
+    → steady (parted word .levels) after (seen (parted word .levels) a (all-seen (parted word .levels) before (advanced (parted word .cycles) (m .state .psi)))) ≡ true
     → step word m .machine .state .psi .reading ≡ step word m .machine .state .psi .decrementer

@@ -1,5 +1,5 @@
--- What one access does to the control bit, the read register and the decrementer is one case analysis over the PSI's table; the PSI after a
--- microprogram is that after its accesses, by one induction; the rest is about lists of accesses.
+-- What one access does to the read register and the decrementer is one case analysis over the PSI's table; the PSI after a microprogram is
+-- that after its accesses, by one induction; the rest is about lists of accesses.
 use Prim.Native.Nat.{ℕ, _-_, _<_}
 use mathlib.Core.Path.{_≡_, refl, sym, _∙_, ap}
 use mathlib.Core.Bool.{Bool, true, false, _||_}
@@ -8,9 +8,9 @@ use native.Mathlib.Omega.{arith}
 use lib.Dec.{eqb, ltb}
 use borrow.Author.Tests.{eqb-true, eqb-false, ltb-true, eq-eqb, lt-ltb, ne-eqb}
 use Rattle.bits.specs.Bits.{bit}
-use Rattle.bits.proofs.Laws.{put-read, put-others}
 use Rattle.memory.specs.declared.Width.the-variants.{Word}
 use Rattle.memory.specs.Memory.{loaded}
+use Rattle.memory.proofs.Laws.{and-left, and-right}
 use Rattle.psi.specs.declared.Psi.{Psi}
 use Rattle.psi.specs.declared.CruBit.{CruBit}
 use Rattle.psi.specs.Psi.{bits, control}
@@ -21,7 +21,7 @@ use Rattle.psi.proofs.Select.{s0-low}
 use Rattle.machine.specs.State.{registers}
 use Rattle.machine.specs.Micro.{done, look, assign, fetch, read, write, sense, drive, to-wp, to-pc, to-st, to-flags}
 use Rattle.machine.specs.Perform.{perform, Access, was-fetched, was-read, was-written, was-sensed, was-driven, accesses, after-assign, after-fetch, after-read, after-write, after-sense, after-drive}
-use Rattle.machine.specs.Refresh.{seen, all-seen, Psi-by-accesses, refreshes, some-refreshes, control-after, control-after-all, restarts, some-restarts, Frozen, Refreshed}
+use Rattle.machine.specs.Refresh.{seen, all-seen, Psi-by-accesses, refreshes, some-refreshes, Frozen, steady, Refreshed, writes-load, Loads-alone-restart}
 use Rattle.machine.proofs.Laws.{or-left, or-right}
 
 pub psi-by-accesses : {A : Type 0} → Psi-by-accesses A
@@ -64,65 +64,58 @@ only-refreshed v (was-written w a x ∷ l) p h = only-refreshed v l _ h ∙ sele
 only-refreshed v (was-sensed b ∷ l) p h = absurd h
 only-refreshed v (was-driven b x ∷ l) p h = absurd h
 
--- what an access that turns the PSI from p into q does to the control bit, the read register and the decrementer
+-- what an access that turns the PSI from p into q does to the read register and the decrementer
 record Sight (a : Access) (p q : Psi) : Type 0 where
-  mode : control q ≡ control-after (control p) a
   frozen : refreshes a ≡ false → q .reading ≡ p .reading
   fresh : refreshes a ≡ true → q .reading ≡ q .decrementer
-  steady : restarts (control p) a ≡ false → q .decrementer ≡ p .decrementer
+  running : writes-load (control p) a ≡ false → q .decrementer ≡ p .decrementer
 
 -- an access that leaves the register, and one that refreshes it
 leaves :
     (a : Access) (p q : Psi)
-    → refreshes a ≡ false → control q ≡ control-after (control p) a → q .reading ≡ p .reading
-    → (restarts (control p) a ≡ false → q .decrementer ≡ p .decrementer)
+    → refreshes a ≡ false → q .reading ≡ p .reading → (writes-load (control p) a ≡ false → q .decrementer ≡ p .decrementer)
     → Sight a p q
-leaves a p q r c e d = record { mode = c; frozen = λ f. e; fresh = λ t. cc; steady = d }
+leaves a p q r e d = record { frozen = λ f. e; fresh = λ t. cc; running = d }
 
-renews :
-    (a : Access) (p q : Psi)
-    → refreshes a ≡ true → control q ≡ control-after (control p) a → q .reading ≡ q .decrementer → q .decrementer ≡ p .decrementer
-    → Sight a p q
-renews a p q r c e d = record { mode = c; frozen = λ f. cc; fresh = λ t. e; steady = λ l. d }
+renews : (a : Access) (p q : Psi) → refreshes a ≡ true → q .reading ≡ q .decrementer → q .decrementer ≡ p .decrementer → Sight a p q
+renews a p q r e d = record { frozen = λ f. cc; fresh = λ t. e; running = λ l. d }
 
 -- an access that changes at most other fields of p, but for S0
 by-s0 :
     (a : Access) (s0 : Bool) (p q : Psi)
-    → refreshes a ≡ s0 → control q ≡ control-after (control p) a → q .reading ≡ p .reading → q .decrementer ≡ p .decrementer
+    → refreshes a ≡ s0 → q .reading ≡ p .reading → q .decrementer ≡ p .decrementer
     → Sight a p (Cru.selected s0 q)
 unfolding Cru.selected
-by-s0 a true p q r c e d = renews a p _ r c refl d
-by-s0 a false p q r c e d = leaves a p _ r c e (λ l. d)
+by-s0 a true p q r e d = renews a p _ r refl d
+by-s0 a false p q r e d = leaves a p _ r e (λ l. d)
 
 module _ (b : CruBit) (x : Bool) (p : Psi) where
   by-control : (y : Bool) → b .0 ≡ 0 → Sight (was-driven b y) p (Cru.controlled p y)
-  unfolding Cru.controlled refreshes control-after
-  by-control true z = leaves (was-driven b true) p _ (rw (eq-eqb _ _ z)) (rw (eq-eqb _ _ z) (put-read 0 true (p .mask))) refl (λ l. refl)
-  by-control false z = renews (was-driven b false) p _ (rw (eq-eqb _ _ z)) (rw (eq-eqb _ _ z) (put-read 0 false (p .mask))) refl refl
+  unfolding Cru.controlled refreshes
+  by-control true z = leaves (was-driven b true) p _ (rw (eq-eqb _ _ z)) refl (λ l. refl)
+  by-control false z = renews (was-driven b false) p _ (rw (eq-eqb _ _ z)) refl refl
 
-  -- bits 1 to 15 leave the read register and the control bit
+  -- bits 1 to 15 leave the read register
   below-16 :
-      (q : Psi) → 0 < b .0 → b .0 < 16 → control q ≡ control p → q .reading ≡ p .reading
-      → (restarts (control p) (was-driven b x) ≡ false → q .decrementer ≡ p .decrementer)
+      (q : Psi) → 0 < b .0 → b .0 < 16 → q .reading ≡ p .reading
+      → (writes-load (control p) (was-driven b x) ≡ false → q .decrementer ≡ p .decrementer)
       → Sight (was-driven b x) p q
-  unfolding refreshes control-after
-  below-16 q l h c e d =
-      leaves (was-driven b x) p q (rw (ne-eqb (b .0) 0 (omega arith)) (s0-low (b .0) h)) (rw (ne-eqb (b .0) 0 (omega arith)) c) e d
+  unfolding refreshes
+  below-16 q l h e d = leaves (was-driven b x) p q (rw (ne-eqb (b .0) 0 (omega arith)) (s0-low (b .0) h)) e d
 
   by-mask : 0 < b .0 → b .0 < 16 → Sight (was-driven b x) p (Cru.masked p (b .0) x)
   unfolding Cru.masked
   by-mask l h =
-      let c = put-others 0 (b .0) x (p .mask) (omega arith) in
-      either-way (Sight (was-driven b x) p) (eqb (b .0) 3) (λ e. below-16 _ l h c refl (λ d. refl)) (λ e. below-16 _ l h c refl (λ d. refl))
+      either-way (Sight (was-driven b x) p) (eqb (b .0) 3) (λ e. below-16 _ l h refl (λ d. refl)) (λ e. below-16 _ l h refl (λ d. refl))
 
   by-load : 0 < b .0 → b .0 < 16 → control p ≡ true → Sight (was-driven b x) p (Cru.timed p (b .0) x)
-  unfolding Cru.timed restarts
+  unfolding Cru.timed writes-load
   by-load l h c =
       either-way (Sight (was-driven b x) p) (eqb (b .0) 15)
-      (λ e. either-way (Sight (was-driven b x) p) x (λ y. below-16 _ l h refl refl (λ d. refl)) (λ y. below-16 _ l h refl refl (λ d. refl)))
+      (λ e. either-way (Sight (was-driven b x) p) x (λ y. below-16 _ l h refl (λ d. refl)) (λ y. below-16 _ l h refl (λ d. refl)))
       (λ e.
-      let writes : restarts (control p) (was-driven b x) ≡ true = rw (c, lt-ltb 0 (b .0) l, lt-ltb (b .0) 15 (omega (arith, eqb-false (b .0) 15 e))) in
-      below-16 _ l h refl refl (λ d. cc))
+      let writes : writes-load (control p) (was-driven b x) ≡ true = rw (c, lt-ltb 0 (b .0) l, lt-ltb (b .0) 15 (omega (arith, eqb-false (b .0) 15 e))) in
+      below-16 _ l h refl (λ d. cc))
 
   -- what is written, and then S0, which is 0 below 16
   abbrev Written : Psi → Type 0
@@ -133,7 +126,7 @@ module _ (b : CruBit) (x : Bool) (p : Psi) where
   low q h s = rw (s0-low (b .0) h) s
 
   driven-sight : Sight (was-driven b x) p (Cru.driven p b x)
-  unfolding Cru.driven Cru.written Cru.latched refreshes control-after
+  unfolding Cru.driven Cru.written Cru.latched refreshes
   driven-sight =
       either-way Written (eqb (b .0) 0)
       (λ z. low _ (omega (arith, eqb-true (b .0) 0 z)) (by-control x (eqb-true (b .0) 0 z)))
@@ -142,16 +135,19 @@ module _ (b : CruBit) (x : Bool) (p : Psi) where
       (λ c. low _ (ltb-true (b .0) 16 l) (by-load (omega (arith, eqb-false (b .0) 0 z)) (ltb-true (b .0) 16 l) c))
       (λ c. low _ (ltb-true (b .0) 16 l) (by-mask (omega (arith, eqb-false (b .0) 0 z)) (ltb-true (b .0) 16 l))))
       (λ l. either-way Written (ltb (b .0) bits)
-      (λ h. by-s0 (was-driven b x) _ p _ (rw z) (rw z) refl refl)
-      (λ h. by-s0 (was-driven b x) _ p p (rw z) (rw z) refl refl)))
+      (λ h. by-s0 (was-driven b x) _ p _ (rw z) refl refl)
+      (λ h. by-s0 (was-driven b x) _ p p (rw z) refl refl)))
 
 sight : (v : ℕ) (a : Access) (p : Psi) → Sight a p (seen v a p)
-unfolding seen Cru.addressed Cru.sensed refreshes control-after
-sight v (was-fetched a) p = by-s0 _ _ p p refl refl refl refl
-sight v (was-read w a) p = by-s0 _ _ p p refl refl refl refl
-sight v (was-written w a x) p = by-s0 _ _ p p refl refl refl refl
-sight v (was-sensed b) p = by-s0 _ _ p p refl refl refl refl
+unfolding seen Cru.addressed Cru.sensed refreshes
+sight v (was-fetched a) p = by-s0 _ _ p p refl refl refl
+sight v (was-read w a) p = by-s0 _ _ p p refl refl refl
+sight v (was-written w a x) p = by-s0 _ _ p p refl refl refl
+sight v (was-sensed b) p = by-s0 _ _ p p refl refl refl
 sight v (was-driven b x) p = driven-sight b x p
+
+pub loads-alone-restart : Loads-alone-restart
+loads-alone-restart v a p = sight v a p .running
 
 frozen-by : (v : ℕ) (l : List Access) (p : Psi) → some-refreshes l ≡ false → all-seen v l p .reading ≡ p .reading
 unfolding all-seen some-refreshes
@@ -159,15 +155,13 @@ frozen-by v [] p f = refl
 frozen-by v (a ∷ l) p f =
     frozen-by v l (seen v a p) (or-right (refreshes a) _ f) ∙ sight v a p .frozen (or-left (refreshes a) _ f)
 
--- where the read register shows the decrementer, it does so until a load bit is written
-shows : (v : ℕ) (l : List Access) (p : Psi) → p .reading ≡ p .decrementer → some-restarts (control p) l ≡ false
+-- where the read register shows the decrementer, it does so until that changes
+shows : (v : ℕ) (l : List Access) (p : Psi) → p .reading ≡ p .decrementer → steady v l p ≡ true
     → all-seen v l p .reading ≡ all-seen v l p .decrementer
-unfolding all-seen some-restarts
+unfolding all-seen steady
 shows v [] p e f = e
 shows v (a ∷ l) p e f =
-    let s = sight v a p in
-    let d = s .steady (or-left (restarts (control p) a) _ f) in
-    shows v l (seen v a p) (still (refreshes a) refl d) (rw (s .mode) (or-right (restarts (control p) a) _ f))
+    shows v l (seen v a p) (still (refreshes a) refl (eqb-true _ _ (and-left _ _ f))) (and-right (eqb (seen v a p .decrementer) (p .decrementer)) _ f)
   where
     still : (r : Bool) → refreshes a ≡ r → seen v a p .decrementer ≡ p .decrementer → seen v a p .reading ≡ seen v a p .decrementer
     still true r d = sight v a p .fresh r
@@ -176,11 +170,11 @@ shows v (a ∷ l) p e f =
 refreshed-by :
     (v : ℕ) (before : List Access) (a : Access) (after : List Access) (p : Psi)
     → refreshes a ≡ true
-    → some-restarts (control-after (control-after-all (control p) before) a) after ≡ false
+    → steady v after (seen v a (all-seen v before p)) ≡ true
     → all-seen v (before ++ (a ∷ after)) p .reading ≡ all-seen v (before ++ (a ∷ after)) p .decrementer
-unfolding all-seen control-after-all
-refreshed-by v [] a after p r f = shows v after (seen v a p) (sight v a p .fresh r) (rw (sight v a p .mode) f)
-refreshed-by v (b ∷ before) a after p r f = refreshed-by v before a after (seen v b p) r (rw (sight v b p .mode) f)
+unfolding all-seen
+refreshed-by v [] a after p r f = shows v after (seen v a p) (sight v a p .fresh r) f
+refreshed-by v (b ∷ before) a after p r f = refreshed-by v before a after (seen v b p) r f
 
 pub frozen : {A : Type 0} → Frozen A
 frozen v p m f = ap (λ (q : Psi). q .reading) (psi-by-accesses v p m) ∙ frozen-by v (accesses v p m) (m .state .psi) f

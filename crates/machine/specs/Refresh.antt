@@ -46,32 +46,6 @@ unfoldable pub some-refreshes : List Access → Bool
 some-refreshes [] = false
 some-refreshes (a ∷ l) = refreshes a || some-refreshes l
 
--- what the control bit is after an access: only bit 0 written changes it
-unfoldable pub control-after : Bool → Access → Bool
-control-after c (was-fetched a) = c
-control-after c (was-read w a) = c
-control-after c (was-written w a x) = c
-control-after c (was-sensed b) = c
-control-after c (was-driven b x) = if eqb (b .0) 0 then x else c
-
--- what it is after accesses, one by one
-unfoldable pub control-after-all : Bool → List Access → Bool
-control-after-all c [] = c
-control-after-all c (a ∷ l) = control-after-all (control-after c a) l
-
--- An access changes the decrementer: in clock mode it writes a load bit, 1 to 14.
-unfoldable pub restarts : Bool → Access → Bool
-restarts c (was-fetched a) = false
-restarts c (was-read w a) = false
-restarts c (was-written w a x) = false
-restarts c (was-sensed b) = false
-restarts c (was-driven b x) = c && (ltb 0 (b .0) && ltb (b .0) 15)
-
--- some of the accesses do, where the control bit is c before them
-unfoldable pub some-restarts : Bool → List Access → Bool
-some-restarts c [] = false
-some-restarts c (a ∷ l) = restarts c a || some-restarts (control-after c a) l
-
 -- Frozen: where no access refreshes the read register, it is as before.
 abbrev pub Frozen : Type 0 → Type 0
 Frozen A =
@@ -79,11 +53,29 @@ Frozen A =
     → some-refreshes (accesses v p m) ≡ false
     → perform v p m .machine .state .psi .reading ≡ m .state .psi .reading
 
+-- each of these accesses leaves the decrementer's value
+unfoldable pub steady : ℕ → List Access → Psi → Bool
+steady v [] p = true
+steady v (a ∷ l) p = eqb (seen v a p .decrementer) (p .decrementer) && steady v l (seen v a p)
+
 -- Refreshed: where an access refreshes it, and none after that changes the decrementer, it is the decrementer.
 abbrev pub Refreshed : Type 0 → Type 0
 Refreshed A =
     (v : ℕ) (p : Micro A) (m : Machine) (before : List Access) (a : Access) (after : List Access)
     → accesses v p m ≡ before ++ (a ∷ after)
     → refreshes a ≡ true
-    → some-restarts (control-after (control-after-all (control (m .state .psi)) before) a) after ≡ false
+    → steady v after (seen v a (all-seen v before (m .state .psi))) ≡ true
     → perform v p m .machine .state .psi .reading ≡ perform v p m .machine .state .psi .decrementer
+
+-- An access writes a load bit: 1 to 14 in clock mode.
+unfoldable pub writes-load : Bool → Access → Bool
+writes-load c (was-fetched a) = false
+writes-load c (was-read w a) = false
+writes-load c (was-written w a x) = false
+writes-load c (was-sensed b) = false
+writes-load c (was-driven b x) = c && (ltb 0 (b .0) && ltb (b .0) 15)
+
+-- Only such an access can change the decrementer.
+abbrev pub Loads-alone-restart : Type 0
+Loads-alone-restart =
+    (v : ℕ) (a : Access) (p : Psi) → writes-load (control p) a ≡ false → seen v a p .decrementer ≡ p .decrementer

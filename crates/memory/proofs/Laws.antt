@@ -141,11 +141,11 @@ pub loaded-same : (w : Width) (m : List ℕ) (a b : ℕ) → a % size ≡ b % si
 unfolding loaded
 loaded-same w m a b e = rw (same-place w a b e)
 
-and-left : (x y : Bool) → (x && y) ≡ true → x ≡ true
+pub and-left : (x y : Bool) → (x && y) ≡ true → x ≡ true
 and-left true y e = refl
 and-left false y e = e
 
-and-right : (x y : Bool) → (x && y) ≡ true → y ≡ true
+pub and-right : (x y : Bool) → (x && y) ≡ true → y ≡ true
 and-right true y e = e
 and-right false y e = absurd (true≢false (sym e))
 
