@@ -32,10 +32,11 @@ use Rattle.machine.specs.Answer.{told-word, told, as-told, answer, latest, numb
 use Rattle.machine.specs.Run.{Ran, one-more, runs, run-refusal, RunResult, run}
 use Rattle.run_rules.proofs.Laws.{latest-answer, goes-on}
 use Rattle.machine.proofs.Bind.{perform-bind, perform-done, perform-registers}
+use Rattle.machine.proofs.Needed.{needed}
 use Rattle.claims.specs.Interrupts.{at-step}
 use Rattle.claims.specs.Words.{found}
-use Rattle.claims.specs.Answers.{Steps-answer, Unassigned-tells-the-pc, meets-by, meets, executing, Idle-steps, Executing-steps, Last-step, Nothing-exactly, Last-level-in-range}
-use Rattle.claims.proofs.Interrupts.{step-is, levels-in-range}
+use Rattle.claims.specs.Answers.{Steps-answer, Unassigned-tells-the-pc, meets-by, meets, executing, Idle-steps, Executing-steps, Idle-steps-access, Executing-steps-access, Last-step, Nothing-exactly, Last-level-in-range}
+use Rattle.claims.proofs.Interrupts.{step-is, step-accesses-are, levels-in-range}
 use Rattle.claims.proofs.Runs.{every-run, runs-at-most, result, accepted-runs, refused-runs, fit-accepted, ready}
 
 -- what the answer to an executed word is, by whether it met an unassigned one
@@ -126,6 +127,14 @@ unfolding at-step boundary proceed answer as-told told Tells fetched set perform
 executing-steps word m none i =
     rw (step-is, none, perform-bind, perform-registers, i, perform-bind, perform-bind)
     (executes (m .state .pc) (parted word .levels) allowance (loaded Word (m .memory) (m .state .pc)) (executing word m))
+
+pub idle-steps-access : Idle-steps-access
+unfolding boundary
+idle-steps-access word m none i = rw (step-accesses-are, none) (needed .idle-step _ _ i)
+
+pub executing-steps-access : Executing-steps-access
+unfolding boundary
+executing-steps-access word m none i = rw (step-accesses-are, none) (needed .executing-step _ _ i)
 
 -- of a run: nothing without a step, and else the answer of its last one
 module _ (stop : ℕ) where

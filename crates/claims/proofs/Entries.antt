@@ -14,18 +14,17 @@ use Rattle.machine.specs.Micro.{registers, set, load, store}
 use Rattle.machine.specs.Perform.{accesses}
 use Rattle.machine.specs.Operands.{set-register}
 use Rattle.machine.specs.Groups as G
-use Rattle.machine.specs.Step.{Kind, was-reset, was-load, was-idle, was-level, ran, vector, enter, boundary, clocked, stepping, step}
+use Rattle.machine.specs.Step.{Kind, was-reset, was-load, was-idle, was-level, ran, vector, enter, boundary, step}
 use Rattle.machine.specs.Answer.{told, as-told, answer}
 use Rattle.machine.specs.Flags.{Flags-by-word, Flags-by-step}
 use Rattle.machine.specs.Order.{switching}
 use Rattle.machine.proofs.Refresh.{In-memory, only-refreshed}
 use Rattle.machine.proofs.Flags.{steps-tell-the-flags}
-use Rattle.book.specs.Book.{step-accesses}
-use Rattle.claims.specs.Interrupts.{at-step, taken}
+use Rattle.claims.specs.Interrupts.{taken}
 use Rattle.claims.specs.Entries.{Caused, Entry, Alike, entry-accesses, Entries-access, Entries-leave-the-psi, Entries-set-no-sample, Entries-clear-idle}
 use Rattle.claims.proofs.Clock.{alike-advanced}
 use Rattle.claims.proofs.Refresh.{step-psi}
-use Rattle.claims.proofs.Interrupts.{taken-step}
+use Rattle.claims.proofs.Interrupts.{step-accesses-are, taken-step}
 
 -- an entry accesses its vector's words and its save words
 accessed : (pc : ℕ) (k : Kind) → Caused k → (v : ℕ) (m : Machine)
@@ -37,15 +36,9 @@ accessed pc (was-level k) c v m = refl
 accessed pc was-idle c v m = absurd c
 accessed pc (ran d) c v m = absurd c
 
--- a step's accesses are those of what is taken at its boundary
-taken-accesses : (word : ℕ) (m : Machine)
-    → step-accesses word m ≡ accesses (parted word .levels) (boundary (taken (answer word m))) (clocked (parted word .cycles) m)
-unfolding accesses registers stepping at-step step-accesses
-taken-accesses word m = rw (taken-step word m)
-
 pub entries-access : Entries-access
 unfolding answer as-told
-entries-access word m c = taken-accesses word m ∙ accessed (m .state .pc) (step word m .value) c _ _
+entries-access word m c = step-accesses-are word m ∙ rw (← taken-step word m) (accessed (m .state .pc) (step word m .value) c _ _)
 
 -- S0 leaves masks, ports and load
 alike-selected : (s0 : Bool) (p q : Psi) → Alike p q → Alike (selected s0 p) q

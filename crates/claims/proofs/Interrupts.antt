@@ -13,8 +13,9 @@ use Rattle.psi.specs.Pins.{parted, request, code}
 use Rattle.psi.proofs.Cases.{either-way}
 use Rattle.psi.proofs.RequestLaws.{request-meaning}
 use Rattle.machine.specs.State.{Registers, Machine, registers, idle, no-sample}
+use Rattle.machine.specs.Micro as Micro
 use Rattle.machine.specs.Micro.{Micro}
-use Rattle.machine.specs.Perform.{perform}
+use Rattle.machine.specs.Perform.{perform, accesses}
 use Rattle.machine.specs.declared.Signal.{Signal}
 use Rattle.machine.specs.declared.Signal.the-variants.{Reset as reset, Load as load, Nothing as none, Level as level}
 use Rattle.machine.specs.declared.Deed.{Deed}
@@ -24,6 +25,7 @@ use Rattle.machine.specs.declared.StepAnswer.the-variants.{Reset, Load, Level}
 use Rattle.machine.specs.Answer.{told-word, told, as-told, answer}
 use Rattle.machine.specs.Step.{Kind, signal, admitted, boundary, proceed, clocked, stepping, step}
 use Rattle.machine.proofs.Bind.{perform-bind, perform-done, perform-registers}
+use Rattle.book.specs.Book.{step-accesses}
 use Rattle.claims.specs.Answers.{Levels-in-range}
 use Rattle.claims.specs.Interrupts.{Lowest, code-at, at-step, Levels-exactly, None-unsampled, Load-exactly, Reset-exactly, taken, Answers-tell}
 
@@ -115,6 +117,12 @@ pub step-is : (word : ℕ) (m : Machine)
     → step word m ≡ perform (parted word .levels) (boundary (at-step word m)) (clocked (parted word .cycles) m)
 unfolding step stepping at-step
 step-is word m = rw (perform-bind, perform-registers)
+
+-- and its accesses are those of what is taken there
+pub step-accesses-are : (word : ℕ) (m : Machine)
+    → step-accesses word m ≡ accesses (parted word .levels) (boundary (at-step word m)) (clocked (parted word .cycles) m)
+unfolding accesses Micro.registers stepping at-step step-accesses
+step-accesses-are word m = refl
 
 -- where a word was executed, nothing was taken at the boundary
 taken-word : (pc : ℕ) (d : Deed) → taken (told-word pc d) ≡ none

@@ -2,10 +2,10 @@
 use Prim.Native.Nat.{ℕ, zero, suc, _≤_}
 use mathlib.Core.Path.{_≡_}
 use mathlib.Core.Bool.{Bool, true, false}
-use mathlib.Core.List.{List}
+use mathlib.Core.List.{List, [], _∷_}
 use mathlib.Core.Logic.{_↔_}
 use lib.ListN.{getD}
-use Rattle.bits.specs.Bits.{if_then_else_, bit, put}
+use Rattle.bits.specs.Bits.{if_then_else_, bit}
 use Rattle.memory.specs.declared.Width.the-variants.{Word}
 use Rattle.memory.specs.Memory.{loaded}
 use Rattle.psi.specs.Pins.{parted}
@@ -16,13 +16,14 @@ use Rattle.isa.specs.Isa.{decoded}
 use Rattle.machine.specs.declared.State.{State}
 use Rattle.machine.specs.declared.Signal.the-variants.{Nothing as none}
 use Rattle.machine.specs.declared.StepAnswer.the-variants.{Nothing, Level, Instruction as instruction, Idle, Unassigned}
-use Rattle.machine.specs.State.{Machine, at, idle, no-sample}
-use Rattle.machine.specs.Micro.{to-flags}
-use Rattle.machine.specs.Perform.{after-assign, after-fetch}
-use Rattle.machine.specs.Execute.{allowance}
+use Rattle.machine.specs.State.{Machine, at, idle}
+use Rattle.machine.specs.Perform.{after-fetch, was-fetched, accesses}
+use Rattle.machine.specs.Execute.{execute, allowance}
 use Rattle.machine.specs.Step.{clocked}
 use Rattle.machine.specs.Answer.{answer}
+use Rattle.machine.specs.Needed.{awake}
 use Rattle.machine.specs.Run.{run}
+use Rattle.book.specs.Book.{step-accesses}
 use Rattle.claims.specs.Interrupts.{at-step}
 use Rattle.claims.specs.Words.{found}
 
@@ -71,7 +72,7 @@ Not-entered word m = at-step word m ≡ none
 -- the machine that executes the word at the PC: its clock has advanced, no-sample is cleared, and the PC is past the word
 abbrev pub executing : ℕ → Machine → Machine
 executing word m =
-    after-fetch (after-assign to-flags (put no-sample false (m .state .flags)) (clocked (parted word .cycles) m))
+    after-fetch (awake (clocked (parted word .cycles) m))
 
 -- Then an idle machine's step is idling, and any other's executes the word at the PC: an unassigned word with that PC, if it meets one, or
 -- else an instruction.
@@ -87,6 +88,19 @@ Executing-steps =
     ≡ (if meets allowance (parted word .levels) (loaded Word (m .memory) (m .state .pc)) (executing word m)
     then Unassigned (m .state .pc)
     else instruction)
+
+-- What they access (Q-4): an idle step nothing; any other the word at the PC, and what that word's instruction accesses.
+abbrev pub Idle-steps-access : Type 0
+Idle-steps-access = (word : ℕ) (m : Machine) → Not-entered word m → bit idle (m .state .flags) ≡ true → step-accesses word m ≡ []
+
+abbrev pub Executing-steps-access : Type 0
+Executing-steps-access =
+    (word : ℕ) (m : Machine)
+    → Not-entered word m
+    → bit idle (m .state .flags) ≡ false
+    → step-accesses word m
+    ≡ was-fetched (m .state .pc)
+    ∷ accesses (parted word .levels) (execute allowance (loaded Word (m .memory) (m .state .pc))) (executing word m)
 
 -- A run hands on what its last step answers: after k + 1 steps that of the step with record k, from what k steps leave.
 abbrev pub Last-step : Type 0

@@ -1,6 +1,5 @@
 -- Document 02, Q-4: nothing is read whose value is not needed. What every form accesses, instruction by instruction; with the order of
--- dual forms, ABS, XOP, entries and RTWP (Order) these are all accesses of all instructions. Which form a word has (Execute.instruction)
--- adds none.
+-- dual forms, ABS, XOP, entries and RTWP (Order) these are all accesses of all instructions.
 use Prim.Native.Nat.{ℕ, zero, suc, _+_, _/_, _%_, _<_}
 use mathlib.Core.Path.{_≡_}
 use mathlib.Core.Bool.{true, false}
@@ -19,21 +18,25 @@ use Rattle.isa.specs.declared.RegisterOp.{RegisterOp}
 use Rattle.isa.specs.declared.RegisterOp.the-variants.{Coc, Czc, Xor, Mpy, Div}
 use Rattle.isa.specs.declared.SingleOp.{SingleOp}
 use Rattle.isa.specs.declared.SingleOp.the-variants.{B, Clr, Neg, Inv, Inc, Inct, Dec, Dect, Bl, Swpb, Seto}
+use Rattle.isa.specs.declared.TransferOp.the-variants.{Ldcr, Stcr}
 use Rattle.isa.specs.declared.BitOp.the-variants.{Sbo, Sbz, Tb}
 use Rattle.isa.specs.declared.JumpOp.{JumpOp}
 use Rattle.isa.specs.declared.ShiftOp.{ShiftOp}
 use Rattle.isa.specs.declared.ImmediateOp.the-variants.{Li, Ai, Andi, Ori, Ci}
 use Rattle.isa.specs.declared.ControlOp.the-variants.{Idle, Rset, Ckon, Ckof, Lrex}
+use Rattle.isa.specs.declared.Instruction.{Instruction}
+use Rattle.isa.specs.declared.Instruction.the-variants.{Dual, Register, Xop, Transfer, Bit, Jump, Shift, Single, Blwp, X, Immediate, Stwp, Stst, Lwpi, Limi, Control, Unassigned}
 use Rattle.alu.specs.declared.Pair.{Pair}
 use Rattle.alu.specs.Sums.{sum, difference, negated}
-use Rattle.alu.specs.Shifts.{shifted}
+use Rattle.alu.specs.Shifts.{amount, shifted}
 use Rattle.alu.specs.Products.{product, divided}
 use Rattle.machine.specs.State.{Machine, idle as idle-flag, no-sample}
-use Rattle.machine.specs.Micro.{to-flags}
+use Rattle.machine.specs.declared.Deed.{Deed}
+use Rattle.machine.specs.Micro.{Micro, to-flags}
 use Rattle.machine.specs.Perform.{Performed, perform, after-assign, after-fetch, after-read, Access, was-fetched, was-read, was-written, was-sensed, was-driven, accesses}
 use Rattle.machine.specs.Operands.{register-at, operand}
 use Rattle.machine.specs.Groups as G
-use Rattle.machine.specs.Execute.{again, execute, allowance}
+use Rattle.machine.specs.Execute.{instruction, again, execute, allowance}
 use Rattle.machine.specs.Step.{proceed}
 use Rattle.machine.specs.Order.{switching}
 
@@ -107,11 +110,49 @@ executed v k at =
     was-read Word (at .value)
     ∷ accesses v (execute k (loaded Word (at .machine .memory) (at .value))) (after-read (at .value) (at .machine))
 
+-- X's accesses, with an allowance of k more after it
+abbrev pub X-in-order : Type 0
+X-in-order =
+    (v k : ℕ) (o : Operand) (m : Machine)
+    → accesses v (again (suc k) o) m ≡ accesses v (operand Word o) m ++ executed v k (perform v (operand Word o) m)
+
+-- What an instruction accesses after the fetch of its first word is what its form does; an unassigned word nothing.
+unfoldable pub by-form : ℕ → (Operand → Micro Deed) → Instruction → Machine → List Access
+by-form v x (Dual op s d w) m = accesses v (G.dual op w s d) m
+by-form v x (Register op s n) m = accesses v (G.with-register op s n) m
+by-form v x (Xop o n) m = accesses v (G.switch-by-number o n) m
+by-form v x (Transfer Ldcr o n) m = accesses v (G.load-cru (amount n) o) m
+by-form v x (Transfer Stcr o n) m = accesses v (G.store-cru (amount n) o) m
+by-form v x (Bit op d) m = accesses v (G.access-bit op d) m
+by-form v x (Jump op d) m = accesses v (G.jump op d) m
+by-form v x (Shift op n c) m = accesses v (G.shift op n c) m
+by-form v x (Single op o) m = accesses v (G.single op o) m
+by-form v x (Blwp o) m = accesses v (G.switch-by-operand o) m
+by-form v x (X o) m = accesses v (x o) m
+by-form v x (Immediate op n) m = accesses v (G.immediate op n) m
+by-form v x (Stwp n) m = accesses v (G.store-workspace n) m
+by-form v x (Stst n) m = accesses v (G.store-status n) m
+by-form v x Lwpi m = accesses v G.load-workspace m
+by-form v x Limi m = accesses v G.load-mask m
+by-form v x (Control op) m = accesses v (G.command op) m
+by-form v x Unassigned m = []
+
+abbrev pub Forms-alone : Type 0
+Forms-alone = (v : ℕ) (x : Operand → Micro Deed) (i : Instruction) (m : Machine) → accesses v (instruction x i) m ≡ by-form v x i m
+
 -- the machine once no-sample is cleared, before an instruction is fetched
 abbrev pub awake : Machine → Machine
 awake m = after-assign to-flags (put no-sample false (m .state .flags)) m
 
+-- A step without an entry fetches the word at the PC and executes it, unless the machine is idle.
+abbrev pub Proceeding : Type 0
+Proceeding =
+    (v : ℕ) (m : Machine)
+    → bit idle-flag (m .state .flags) ≡ false
+    → accesses v proceed m ≡ fetches m ∷ accesses v (execute allowance (further m)) (after-fetch (awake m))
+
 pub record Needed : Type 0 where
+  pub form : Forms-alone
   -- the address of Rn, *Rn, @a, @a(Rn) and *Rn+: Rn itself is not read for its address, and R0 is no index
   pub direct : (v : ℕ) (w : Width) (n : ℕ) (m : Machine) → accesses v (operand w (record { mode = 0; register = n })) m ≡ []
   pub indirect :
@@ -205,9 +246,7 @@ pub record Needed : Type 0 where
       (v : ℕ) (o : Operand) (m : Machine)
       → accesses v (G.switch-by-operand o) m
       ≡ accesses v (operand Word o) m ++ switching (perform v (operand Word o) m .value) (perform v (operand Word o) m .machine)
-  pub x :
-      (v k : ℕ) (o : Operand) (m : Machine)
-      → accesses v (again (suc k) o) m ≡ accesses v (operand Word o) m ++ executed v k (perform v (operand Word o) m)
+  pub x : X-in-order
   pub ninth-x : (v : ℕ) (o : Operand) (m : Machine) → accesses v (again 0 o) m ≡ []
   -- LI, STWP and STST do not read their register; CI stores nothing
   pub li : (v n : ℕ) (m : Machine) → accesses v (G.immediate Li n) m ≡ fetches m ∷ sets n (further m) m ∷ []
@@ -232,9 +271,6 @@ pub record Needed : Type 0 where
   pub ckon : (v : ℕ) (m : Machine) → accesses v (G.command Ckon) m ≡ []
   pub ckof : (v : ℕ) (m : Machine) → accesses v (G.command Ckof) m ≡ []
   pub lrex : (v : ℕ) (m : Machine) → accesses v (G.command Lrex) m ≡ []
-  -- a step without an entry fetches the word at the PC and executes it; an idle one does not even fetch it
-  pub executing-step :
-      (v : ℕ) (m : Machine)
-      → bit idle-flag (m .state .flags) ≡ false
-      → accesses v proceed m ≡ fetches m ∷ accesses v (execute allowance (further m)) (after-fetch (awake m))
+  -- an idle step does not even fetch the word at the PC
+  pub executing-step : Proceeding
   pub idle-step : (v : ℕ) (m : Machine) → bit idle-flag (m .state .flags) ≡ true → accesses v proceed m ≡ []
