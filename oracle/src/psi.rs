@@ -181,7 +181,7 @@ impl Psi {
     // ---- S0 ----
 
     /// What an access does by its address alone, be it of memory or CRU: with S0
-    /// set the PSI leaves clock mode for a moment, and the read register takes
+    /// set the PSI is not in clock mode during it, and the read register takes
     /// the clock's value. Control stays as it is.
     #[inline(always)]
     pub fn see_address(&mut self, address: u16) {

@@ -1,4 +1,4 @@
-//! S0 hangs on the address line of weight 32: an access with it set refreshes the
+//! S0 sees the address line of weight 32: an access that has it set refreshes the
 //! read register in clock mode.
 //!
 //! The bench's registers (0300h to 031Eh) and its program (0100h to 011Eh) have

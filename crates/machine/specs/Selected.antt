@@ -1,5 +1,5 @@
 -- Examples of Q-4 as one table under one claim: steps in clock mode that refresh the read register and steps that do not. Each says the
--- whole answer and memory; of the PSI nothing else changes, the control bit neither.
+-- whole answer and memory; of the PSI nothing else changes but by the clock, the control bit neither.
 use Prim.Native.Nat.{ℕ, _+_, _*_, _-_, _^_}
 use mathlib.Core.List.{List, [], _∷_}
 use lib.Dec.{T}

@@ -38,8 +38,8 @@ sensed-value s v n =
     else if ltb n bits then port-level s v (n - 16)
     else true
 
--- Document 02, Q-4: the PSI's select line S0 hangs on the address line of weight 32. A CRU bit's number is half its address, so there
--- the line has weight 16. As numbers of bits:
+-- Document 02, Q-4: the PSI's select input S0 is wired to one line of the address bus, that of weight 32. A CRU bit's number is half its
+-- address, so there the line has weight 16. As numbers of bits:
 abbrev pub memory-select : ℕ
 memory-select = 5
 

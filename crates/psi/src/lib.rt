@@ -32,7 +32,7 @@ impl Psi {
     pub const CLOCK_LARGEST: u16 = (1 << Psi::CLOCK_BITS) - 1;
     // Cycles of one tick.
     pub const TICK_CYCLES: u16 = 64;
-    // The bits of a memory address, and of a CRU bit's number, that the select line S0 hangs on.
+    // The bits of a memory address, and of a CRU bit's number, that the select input S0 is wired to.
     pub const MEMORY_SELECT: u32 = 5;
 
     pub const CRU_SELECT: u32 = 4;

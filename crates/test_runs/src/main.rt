@@ -248,7 +248,7 @@ fn calls(
     now_at
 }
 
-// New records.
+// Records of new pins, as quiet as the seed says.
 fn renew_records(records: &mut [u32], seed: &mut u32) {
     let pins = quiet(seed);
     fill_records(records, seed, pins);
