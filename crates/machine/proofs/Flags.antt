@@ -30,6 +30,7 @@ use Rattle.machine.specs.Step.{Kind, was-reset, was-load, was-idle, was-
 use Rattle.machine.specs.Flags.{Flags-by-word, Flags-by-step, Steps-tell-the-flags, Keeps-well-formed}
 use Rattle.machine.proofs.Bind.{perform-bind, perform-done}
 use Rattle.machine.proofs.Laws.{keeps-even, keeps-the-psi-formed, Form, form, formed}
+use Rattle.machine.proofs.ReadOnly.{keeps-read-only}
 use Rattle.machine.proofs.Loads as Loads
 
 -- what a microprogram's value and the flags after it are, where it begins with cleared flags
@@ -173,6 +174,7 @@ boundary-form g v m f =
     record {
       even = keeps-even v (boundary g) m (f .even);
       flags = at-most-2 _ _ _ (bounds g v m) (f .flags);
+      first = rw (keeps-read-only v (boundary g) m) (f .first);
       psi = keeps-the-psi-formed v (boundary g) m (f .psi);
     }
 
@@ -181,6 +183,7 @@ clocked-form cycles m f =
     record {
       even = record { wp = f .even .wp; pc = f .even .pc };
       flags = f .flags;
+      first = f .first;
       psi = kept-formed .cycles cycles (f .psi);
     }
 

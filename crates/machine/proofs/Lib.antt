@@ -3,6 +3,7 @@ pub mod Told
 pub mod Selected
 pub mod Bind
 pub mod Laws
+pub mod ReadOnly
 pub mod Loads
 pub mod Flags
 pub mod Order

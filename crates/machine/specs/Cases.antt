@@ -60,9 +60,10 @@ same-answer a b =
     && (eqb (a .state .pc) (b .state .pc)
     && (eqb (a .state .st) (b .state .st)
     && (eqb (a .state .flags) (b .state .flags)
+    && (eqb (a .state .rom) (b .state .rom)
     && (same-psi (a .state .psi) (b .state .psi)
     && (eqb (number (a .last)) (number (b .last))
-    && eqb (value (a .last)) (value (b .last))))))))))
+    && eqb (value (a .last)) (value (b .last)))))))))))
 
 -- two memories byte by byte
 unfoldable pub same-bytes : List ℕ → List ℕ → Bool

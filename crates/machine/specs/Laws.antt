@@ -1,7 +1,8 @@
 -- What holds of every microprogram, so of every step.
-use Prim.Native.Nat.{ℕ, _%_, _<_}
+use Prim.Native.Nat.{ℕ, _%_, _<_, _≤_}
 use mathlib.Core.Path.{_≡_}
 use mathlib.Core.Bool.{true, false}
+use mathlib.Core.List.{List}
 use lib.ListN.{length, getD}
 use Rattle.memory.specs.Memory.{Bytes, covers}
 use Rattle.psi.specs.Formed as Formed
@@ -9,13 +10,30 @@ use Rattle.psi.specs.Kept.{Fits16}
 use Rattle.machine.specs.declared.State.{State}
 use Rattle.machine.specs.State.{Machine}
 use Rattle.machine.specs.Micro.{Micro}
-use Rattle.machine.specs.Perform.{perform, accesses, written}
+use Rattle.machine.specs.Perform.{perform, Access, accesses, written}
 
--- A byte that is in no store of a microprogram keeps its value.
+-- A byte that is in no store of a microprogram keeps its value; a dropped store has none (Q-7).
 abbrev pub Keeps-the-rest : Type 0 → Type 0
 Keeps-the-rest A =
     (v : ℕ) (p : Micro A) (m : Machine) (i : ℕ)
-    → covers i (written (accesses v p m)) ≡ false
+    → covers i (written (m .state .rom) (accesses v p m)) ≡ false
+    → getD (perform v p m .machine .memory) i 0 ≡ getD (m .memory) i 0
+
+-- Q-7: the read-only address never changes.
+abbrev pub Keeps-read-only : Type 0 → Type 0
+Keeps-read-only A = (v : ℕ) (p : Micro A) (m : Machine) → perform v p m .machine .state .rom ≡ m .state .rom
+
+-- Q-7: a byte that is stored into lies below the read-only address, where that is even, as a well-formed state has it.
+abbrev pub Stores-below : Type 0
+Stores-below =
+    (first : ℕ) (l : List Access) (i : ℕ) → first % 2 ≡ 0 → covers i (written first l) ≡ true → i < first
+
+-- Q-7: so a byte at or above it keeps its value.
+abbrev pub Keeps-the-read-only-part : Type 0 → Type 0
+Keeps-the-read-only-part A =
+    (v : ℕ) (p : Micro A) (m : Machine) (i : ℕ)
+    → m .state .rom % 2 ≡ 0
+    → m .state .rom ≤ i
     → getD (perform v p m .machine .memory) i 0 ≡ getD (m .memory) i 0
 
 -- The memory's length never changes.
@@ -36,7 +54,7 @@ pub record Even (s : State) : Type 0 where
 abbrev pub Keeps-even : Type 0 → Type 0
 Keeps-even A = (v : ℕ) (p : Micro A) (m : Machine) → Even (m .state) → Even (perform v p m .machine .state)
 
--- every field is a number of 16 bits, as the code's types have it
+-- every field but the read-only address is a number of 16 bits, as the code's types have it; of that address no bound is needed
 pub record Words (s : State) : Type 0 where
   pub wp : s .wp < 65536
   pub pc : s .pc < 65536

@@ -9,11 +9,12 @@ use Rattle.machine.specs.declared.State.{State}
 use Rattle.machine.specs.declared.RunAnswer.{RunAnswer}
 use Rattle.machine.specs.declared.StepAnswer.{StepAnswer}
 use Rattle.machine.specs.declared.StepAnswer.the-variants.{Level, Instruction, Unassigned}
+use Rattle.machine.specs.State.{no-rom}
 use Rattle.machine.specs.Cases.{Poke, word, poked, zeros, Case, replayed, clocked, coded, every, quiet}
 
 -- WP 0300h, so that Rn is at 0300h + 2n; flags 0
 abbrev pub start : ℕ → ℕ → Psi → State
-start pc st p = record { wp = 0x300; pc = pc; st = st; flags = 0; psi = p }
+start pc st p = record { wp = 0x300; pc = pc; st = st; flags = 0; psi = p; rom = no-rom }
 
 -- one step with an answer to a state; n unassigned words
 abbrev pub stepped : ℕ → StepAnswer → State → RunAnswer
@@ -67,7 +68,7 @@ table =
     ∷ replayed (start 0x100 0 blank) (poked (word 0x100 0x10FF ∷ []) zeros) (quiet 0 ∷ []) (stepped 0 Instruction (start 0x100 0 blank)) []
     -- P11 level 1 by INT3
     ∷ replayed (start 0x100 4 (enabled 8)) (poked (word 4 0x200 ∷ word 6 0x400 ∷ []) zeros) ((quiet 0 - 2 ^ 2) ∷ [])
-    (stepped 0 (Level 1) (record { wp = 0x200; pc = 0x400; st = 0; flags = 2; psi = enabled 8 }))
+    (stepped 0 (Level 1) (record { wp = 0x200; pc = 0x400; st = 0; flags = 2; psi = enabled 8; rom = no-rom }))
     (word 0x21A 0x300 ∷ word 0x21C 0x100 ∷ word 0x21E 4 ∷ [])
     -- P12 X R1 with X R1 in R1
     ∷ replayed (start 0x100 0 blank) (poked (word 0x100 0x0481 ∷ word 0x302 0x0481 ∷ []) zeros) (quiet 0 ∷ []) (stepped 1 (Unassigned 0x100) (start 0x102 0 blank)) []

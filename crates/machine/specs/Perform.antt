@@ -2,9 +2,11 @@
 use Prim.Native.Nat.{ℕ, suc, _+_, _*_, _/_, _%_}
 use mathlib.Core.Bool.{Bool}
 use mathlib.Core.List.{List, [], _∷_, _++_}
+use lib.Dec.{leb}
 use Rattle.memory.specs.declared.Width.{Width}
 use Rattle.memory.specs.declared.Width.the-variants.{Word}
-use Rattle.memory.specs.Memory.{loaded, stored, touched}
+use Rattle.bits.specs.Bits.{if_then_else_}
+use Rattle.memory.specs.Memory.{place, loaded, stored, touched}
 use Rattle.psi.specs.declared.CruBit.{CruBit}
 use Rattle.psi.specs.Cru as Cru
 use Rattle.machine.specs.declared.State.{State}
@@ -34,6 +36,18 @@ assigned to-flags x s = with-flags (x % 4) s
 abbrev pub addressed : ℕ → State → State
 addressed a s = with-psi (Cru.addressed a (s .psi)) s
 
+-- Document 02, Q-7: a store whose place is at or above the first read-only address is dropped.
+unfoldable pub dropped : ℕ → Width → ℕ → Bool
+dropped first w a = leb first (place w a)
+
+-- the memory after a store that may be dropped
+unfoldable pub received : ℕ → Width → List ℕ → ℕ → ℕ → List ℕ
+received first w m a x = if dropped first w a then m else stored w m a x
+
+-- the places of the bytes that it stores into: none if it is dropped
+unfoldable pub reached : ℕ → Width → ℕ → List ℕ
+reached first w a = if dropped first w a then [] else touched w a
+
 -- the machine after each kind of access
 abbrev pub after-assign : Target → ℕ → Machine → Machine
 after-assign t x m = record { state = assigned t x (m .state); memory = m .memory }
@@ -46,7 +60,8 @@ abbrev pub after-read : ℕ → Machine → Machine
 after-read a m = record { state = addressed a (m .state); memory = m .memory }
 
 abbrev pub after-write : Width → ℕ → ℕ → Machine → Machine
-after-write w a x m = record { state = addressed a (m .state); memory = stored w (m .memory) a x }
+after-write w a x m =
+    record { state = addressed a (m .state); memory = received (m .state .rom) w (m .memory) a x }
 
 abbrev pub after-sense : ℕ → CruBit → Machine → Machine
 after-sense v b m = record { state = with-psi (Cru.sensed (m .state .psi) v b .psi) (m .state); memory = m .memory }
@@ -93,11 +108,12 @@ fetches (was-written w a x ∷ l) = fetches l
 fetches (was-sensed b ∷ l) = fetches l
 fetches (was-driven b x ∷ l) = fetches l
 
--- the places of all bytes that were stored into, equal values included
-unfoldable pub written : List Access → List ℕ
-written [] = []
-written (was-fetched a ∷ l) = written l
-written (was-read w a ∷ l) = written l
-written (was-written w a x ∷ l) = touched w a ++ written l
-written (was-sensed b ∷ l) = written l
-written (was-driven b x ∷ l) = written l
+-- the places of all bytes that were stored into, equal values included, where this is the first read-only address; a dropped store
+-- has none
+unfoldable pub written : ℕ → List Access → List ℕ
+written first [] = []
+written first (was-fetched a ∷ l) = written first l
+written first (was-read w a ∷ l) = written first l
+written first (was-written w a x ∷ l) = reached first w a ++ written first l
+written first (was-sensed b ∷ l) = written first l
+written first (was-driven b x ∷ l) = written first l

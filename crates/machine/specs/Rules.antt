@@ -80,7 +80,7 @@ unfolding Products.product Products.divided
 products = tt
 
 unfoldable pub microprograms : Unit {0}
-unfolding Micro.registers Micro.set Micro.fetched Micro.load Micro.store Micro.sensed Micro.driven Perform.perform
+unfolding Micro.registers Micro.set Micro.fetched Micro.load Micro.store Micro.sensed Micro.driven Perform.dropped Perform.received Perform.perform
 microprograms = tt
 
 unfoldable pub operands : Unit {0}

@@ -8,6 +8,7 @@ use Rattle.psi.specs.Psi.{with-count}
 use Rattle.machine.specs.declared.State.{State}
 use Rattle.machine.specs.declared.StepAnswer.{StepAnswer}
 use Rattle.machine.specs.declared.StepAnswer.the-variants.{Load, Level, Instruction, Idle}
+use Rattle.machine.specs.State.{no-rom}
 use Rattle.machine.specs.Cases.{Poke, word, poked, zeros, Case, replayed, every, quiet}
 use Rattle.machine.specs.Marked.{stepped}
 
@@ -25,7 +26,7 @@ psi masks reading =
     record { mask = masks + 1; direction = 3; latch = 1; load = 0; decrementer = new; reading = reading; phase = 5; pending = 1 }
 
 abbrev state : ℕ → ℕ → ℕ → ℕ → Psi → State
-state wp pc st flags p = record { wp = wp; pc = pc; st = st; flags = flags; psi = p }
+state wp pc st flags p = record { wp = wp; pc = pc; st = st; flags = flags; psi = p; rom = no-rom }
 
 -- a quiet step of an instruction from this WP and PC with ST 0: the words before it; PC, ST and the read register after it; the words stored
 abbrev ran : ℕ → ℕ → List Poke → ℕ → ℕ → ℕ → List Poke → Case

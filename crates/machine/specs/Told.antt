@@ -6,6 +6,7 @@ use Rattle.psi.specs.Psi.{blank}
 use Rattle.machine.specs.declared.State.{State}
 use Rattle.machine.specs.declared.StepAnswer.{StepAnswer}
 use Rattle.machine.specs.declared.StepAnswer.the-variants.{Nothing, Reset, Load, Level, Instruction, Idle, Unassigned}
+use Rattle.machine.specs.State.{no-rom}
 use Rattle.machine.specs.Cases.{Poke, word, poked, zeros, Case, replayed, every, quiet}
 use Rattle.machine.specs.Marked.{start, stepped, enabled}
 
@@ -15,14 +16,14 @@ abbrev by-request : ℕ → ℕ → ℕ → StepAnswer → Case
 by-request n vector mask a =
     replayed (start 0x100 15 (enabled (2 ^ n))) (poked (word vector 0x200 ∷ word (vector + 2) 0x400 ∷ []) zeros)
     ((quiet 0 - 2 ^ (n - 1)) ∷ [])
-    (stepped 0 a (record { wp = 0x200; pc = 0x400; st = mask; flags = 2; psi = enabled (2 ^ n) }))
+    (stepped 0 a (record { wp = 0x200; pc = 0x400; st = mask; flags = 2; psi = enabled (2 ^ n); rom = no-rom }))
     (word 0x21A 0x300 ∷ word 0x21C 0x100 ∷ word 0x21E 15 ∷ [])
 
 -- two quiet steps from 0100h on these words, with nothing stored: the unassigned words met, the last answer, PC and flags after them
 abbrev both : List Poke → ℕ → StepAnswer → ℕ → ℕ → Case
 both before n a pc flags =
     replayed (start 0x100 0 blank) (poked before zeros) (quiet 0 ∷ quiet 0 ∷ [])
-    (record { number = 0; state = record { wp = 0x300; pc = pc; st = 0; flags = flags; psi = blank }; steps = 2; unassigned = n; last = a })
+    (record { number = 0; state = record { wp = 0x300; pc = pc; st = 0; flags = flags; psi = blank; rom = no-rom }; steps = 2; unassigned = n; last = a })
     []
 
 -- no step from a state: a refusal's number, or 0
@@ -42,7 +43,7 @@ table =
     ∷ by-request 6 16 3 (Level 4)
     -- IDLE is an instruction, the step after it idles
     ∷ replayed (start 0x100 0 blank) (poked (word 0x100 0x0340 ∷ []) zeros) (quiet 0 ∷ [])
-    (stepped 0 Instruction (record { wp = 0x300; pc = 0x102; st = 0; flags = 1; psi = blank }))
+    (stepped 0 Instruction (record { wp = 0x300; pc = 0x102; st = 0; flags = 1; psi = blank; rom = no-rom }))
     []
     ∷ both (word 0x100 0x0340 ∷ []) 0 Idle 0x102 1
     -- RTWP is an instruction

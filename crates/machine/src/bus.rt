@@ -30,12 +30,15 @@ pub fn load(bytes: &[u8], state: State, width: Width, address: u16) -> Loaded
     Loaded { value, state: seen }
 }
 
-// Stores a byte or a word at this address.
+// Stores a byte or a word at this address, unless that is read-only.
 pub fn store(bytes: &mut [u8], state: State, width: Width, address: u16, value: u16) -> State
     requires { ⌜ Installed (now bytes) ⌝ }
     ensures { λ r. ⌜ ((v : ℕ) → perform v (Micro.store width address value) (at state (now (bytes .entry))) ≡ performed tt (at r (now (bytes .exit)))) ⌝ }
 {
     let after = state.addressed(address);
+    if state.rom <= memory::place(width, address) as u32 {
+        return after;
+    }
     memory::store(bytes, width, address, value);
     after
 }
@@ -55,6 +58,7 @@ pub fn fetch(bytes: &[u8], state: State) -> Loaded
         st: state.st,
         flags: state.flags,
         psi,
+        rom: state.rom,
     };
     Loaded {
         value,
@@ -99,6 +103,7 @@ pub fn set_wp(state: State, value: u16) -> State
         st: state.st,
         flags: state.flags,
         psi,
+        rom: state.rom,
     }
 }
 
@@ -113,6 +118,7 @@ pub fn set_pc(state: State, value: u16) -> State
         st: state.st,
         flags: state.flags,
         psi,
+        rom: state.rom,
     }
 }
 
@@ -127,6 +133,7 @@ pub fn set_st(state: State, value: u16) -> State
         st: value,
         flags: state.flags,
         psi,
+        rom: state.rom,
     }
 }
 
@@ -141,6 +148,7 @@ pub fn set_flags(state: State, value: u16) -> State
         st: state.st,
         flags: value % 4,
         psi,
+        rom: state.rom,
     }
 }
 

@@ -7,13 +7,14 @@ use psi::Psi;
 pub mod bus;
 
 // WP, PC and ST; `flags` has weight 1 where the machine is idle, or weight 2 where the next boundary takes no sample; with both the state
-// is not well formed.
+// is not well formed. Stores at or above `rom` are dropped; it has 32 bits, because another board may have 65536 there.
 pub struct State {
     pub wp: u16,
     pub pc: u16,
     pub st: u16,
     pub flags: u16,
     pub psi: Psi,
+    pub rom: u32,
 }
 
 // What an instruction was, beyond its effect on the machine.
@@ -65,7 +66,10 @@ impl State {
 
     pub const FLAGS_LARGEST: u16 = 1 << State::NO_SAMPLE;
 
-    // All fields 0.
+    // The read-only address of a machine that has no read-only part.
+    pub const NO_ROM: u32 = memory::SIZE as u32;
+
+    // All fields 0, and nothing read-only.
     pub fn blank() -> Self
         ensures { λ r. ⌜ r ≡ Own.blank ⌝ }
     {
@@ -76,6 +80,7 @@ impl State {
             st: 0,
             flags: 0,
             psi,
+            rom: State::NO_ROM,
         }
     }
 
@@ -89,6 +94,7 @@ impl State {
             st: self.st,
             flags: self.flags,
             psi,
+            rom: self.rom,
         }
     }
 
@@ -101,13 +107,14 @@ impl State {
         self.with_psi(psi)
     }
 
-    // WP and PC even, flags at most 2, and the PSI's fields in order.
+    // WP and PC even, flags at most 2, the read-only address even and at most the memory's size, and the PSI's fields in order.
     pub fn well_formed(self) -> bool
         ensures { λ r. ⌜ r ≡ Own.well-formed self ⌝ }
     {
         let wp = self.wp;
         let pc = self.pc;
         let flags = self.flags;
+        let rom = self.rom;
         let psi = self.psi;
         if wp % 2 != 0 {
             return false;
@@ -116,6 +123,12 @@ impl State {
             return false;
         }
         if State::FLAGS_LARGEST < flags {
+            return false;
+        }
+        if rom % 2 != 0 {
+            return false;
+        }
+        if State::NO_ROM < rom {
             return false;
         }
         psi.well_formed()

@@ -102,6 +102,23 @@ covers-at (suc k) p zero h = rw (eq-eqb (p + zero) p (omega arith))
 covers-at (suc k) p (suc j) h =
     rw (let e : p + suc j ≡ suc p + j = omega arith in e, covers-at k (suc p) j (omega arith)) (or-true (eqb (suc p + j) p))
 
+-- what follows from either part of a true disjunction follows from it
+pub or-either : (P : Type 0) (a b : Bool) → (a || b) ≡ true → (a ≡ true → P) → (b ≡ true → P) → P
+or-either P true b e l r = l refl
+or-either P false b e l r = r e
+
+-- and nothing from p + k on is
+places-below : (k p i : ℕ) → covers i (places k p) ≡ true → i < p + k
+unfolding covers places
+places-below zero p i c = absurd (true≢false (sym c))
+places-below (suc k) p i c =
+    or-either (i < p + suc k) (eqb i p) (covers i (places k (suc p))) c (λ e. omega (arith, eqb-true i p e))
+    (λ d. omega (arith, places-below k (suc p) i d))
+
+pub touched-below : (w : Width) (a i : ℕ) → covers i (touched w a) ≡ true → i < place w a + bytes w
+unfolding touched
+touched-below w a i c = places-below (bytes w) (place w a) i c
+
 pub covers-append : (i : ℕ) (ps qs : List ℕ) → covers i (ps ++ qs) ≡ (covers i ps || covers i qs)
 unfolding covers
 covers-append i [] qs = refl

@@ -36,6 +36,16 @@ pub fn word(high: u8, low: u8) -> u16
     wide(high) * 256 + wide(low)
 }
 
+// The first byte of an access of this width at this address.
+pub fn place(width: Width, address: u16) -> u16
+    ensures { λ r. ⌜ r ≡ Memory.place width address ⌝ }
+{
+    match width {
+        Width::Byte => address % (SIZE as u16),
+        Width::Word => address / 2 * 2 % (SIZE as u16),
+    }
+}
+
 // What an access of this width at this address reads.
 pub fn load(memory: &[u8], width: Width, address: u16) -> u16
     requires { ⌜ Memory.Installed (now memory) ⌝ }
