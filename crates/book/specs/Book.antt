@@ -65,7 +65,7 @@ unfoldable pub event : ℕ → Machine → Event
 event word m = event-of word m (step word m .value)
 
 -- a step by the rules: the machine before and after it, the book before it, what it means for the book, and the places of
--- all bytes that it stores into
+-- all bytes that it stores into; of a dropped store there are none (Q-7)
 pub record Moment : Type 0 where
   pub before : Machine
   pub after : Machine
@@ -80,7 +80,7 @@ moment word m b =
       after = step word m .machine;
       book = b;
       event = event word m;
-      writes = written (step-accesses word m);
+      writes = written (m .state .rom) (step-accesses word m);
     }
 
 -- the steps of a run by the rules, with the book carried along

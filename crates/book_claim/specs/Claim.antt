@@ -1,5 +1,5 @@
 -- Demand 3: one claim about any list of calls of run.
-use Prim.Native.Nat.{ℕ, _%_}
+use Prim.Native.Nat.{ℕ, _%_, _<_}
 use mathlib.Core.Path.{_≡_}
 use mathlib.Core.Bool.{true}
 use mathlib.Core.List.{List, [], _∷_, _++_}
@@ -56,10 +56,18 @@ In-workspace returned (n ∷ b) wp = wp % size ≡ n .workspace % size
 In-workspace cleared b wp = Unit
 In-workspace other b wp = Unit
 
+-- The save words of an entry lie below the read-only part (Q-7), judged at the step that opens it; what reset saves is no entry's.
+unfoldable pub Saved : Event → ℕ → Type 0
+Saved (opened n) first = Each (λ p. p < first) (save-places n)
+Saved returned first = Unit
+Saved cleared first = Unit
+Saved other first = Unit
+
 -- the premises at a step
 pub record Respected (x : Moment) : Type 0 where
   pub avoids : Avoided (x .event) (x .book) (x .writes)
   pub in-place : In-workspace (x .event) (x .book) (x .before .state .wp)
+  pub saved : Saved (x .event) (x .before .state .rom)
 
 -- a note's WP, PC and ST are R13, R14 and R15 at its new WP
 pub record Stands (m : List ℕ) (n : Note) : Type 0 where

@@ -1,6 +1,6 @@
 -- The two calls: when they refuse, what they answer, and what the lent bytes are afterwards.
 use Prim.Native.Nat.{ℕ, zero, suc, _+_}
-use mathlib.Core.Bool.{not, _&&_}
+use mathlib.Core.Bool.{Bool, not, _&&_, _||_}
 use mathlib.Core.List.{List}
 use lib.ListN.{length}
 use lib.Dec.{eqb}
@@ -24,14 +24,18 @@ first-fault img (suc k) i =
     if eqb (Image.block-fault img i) 0 then first-fault img k (i + 1)
     else record { number = Image.block-fault img i; block = i }
 
+-- the editions that are read: 1 and 2
+abbrev pub known-edition : ℕ → Bool
+known-edition n = eqb n Image.first-edition || eqb n Image.edition
+
 -- what block 0 says, once all blocks are in order
 unfoldable pub content-fault : List ℕ → ℕ
 content-fault img =
-    if not (eqb (Image.field-of img 0) Image.format && eqb (Image.field-of img 1) Image.edition) then 8
+    if not (eqb (Image.field-of img 0) Image.format && known-edition (Image.field-of img 1)) then 8
     else if not (well-formed (Image.state-of img) && Image.zeros (Image.filler-of img)) then 9
     else 0
 
--- Reading: 1 memory's size, 5 the image's, 6 and 7 block by block, 8 format or edition, 9 fields or filler.
+-- Reading: 1 memory's size, 5 the image's, 6 and 7 block by block, 8 format word or edition, 9 fields or filler.
 unfoldable pub read-fault : List ℕ → List ℕ → Fault
 read-fault img m =
     if not (eqb (length m) size) then fault 1

@@ -7,6 +7,7 @@ use lib.Dec.{eqb}
 use Rattle.bits.specs.Bits.{if_then_else_}
 use Rattle.psi.specs.declared.Psi.{Psi}
 use Rattle.machine.specs.declared.State.{State}
+use Rattle.machine.specs.State.{no-rom}
 use Rattle.memory.specs.Memory.{size}
 
 abbrev pub block-count : ℕ
@@ -55,26 +56,34 @@ padded n l = l ++ replicate (n - length l) 0
 abbrev pub format : ℕ
 format = 0x9901
 
+-- the edition that is written (document 02, Q-7)
 abbrev pub edition : ℕ
-edition = 1
+edition = 2
+
+-- the edition before it, which has no read-only address
+abbrev pub first-edition : ℕ
+first-edition = 1
 
 -- the words that hold a PSI, one a field
 abbrev pub psi-words : ℕ
 psi-words = 8
 
--- the fields of block 0: format, edition, WP, PC, ST, flags, and then the PSI's
+-- the fields of block 0: format, edition, WP, PC, ST, flags, then the PSI's, and in edition 2 the read-only address
 abbrev pub psi-field : ℕ
 psi-field = 6
 
+abbrev pub rom-field : ℕ
+rom-field = psi-field + psi-words
+
 abbrev pub field-count : ℕ
-field-count = psi-field + psi-words
+field-count = rom-field + 1
 
 -- The fields of block 0, after format and edition.
 unfoldable pub fields : State → List ℕ
 fields s =
     s .wp ∷ s .pc ∷ s .st ∷ s .flags
     ∷ s .psi .mask ∷ s .psi .direction ∷ s .psi .latch ∷ s .psi .load
-    ∷ s .psi .decrementer ∷ s .psi .reading ∷ s .psi .phase ∷ s .psi .pending ∷ []
+    ∷ s .psi .decrementer ∷ s .psi .reading ∷ s .psi .phase ∷ s .psi .pending ∷ s .rom ∷ []
 
 -- Block 0 holds the fields, then zeros; blocks 1 to 33 hold memory, the last 128 bytes, then zeros.
 unfoldable pub content : State → List ℕ → ℕ → List ℕ
@@ -128,17 +137,36 @@ psi-of img =
       pending = field-of img (psi-field + 7);
     }
 
+-- whether an image is of edition 1
+unfoldable pub is-first : List ℕ → Bool
+is-first img = eqb (field-of img 1) first-edition
+
+-- Edition 1 is read as having no read-only part; edition 2 has the address.
+unfoldable pub rom-of : List ℕ → ℕ
+rom-of img = if is-first img then no-rom else field-of img rom-field
+
 unfoldable pub state-of : List ℕ → State
 state-of img =
-    record { wp = field-of img 2; pc = field-of img 3; st = field-of img 4; flags = field-of img 5; psi = psi-of img }
+    record {
+      wp = field-of img 2;
+      pc = field-of img 3;
+      st = field-of img 4;
+      flags = field-of img 5;
+      psi = psi-of img;
+      rom = rom-of img;
+    }
 
 unfoldable pub zeros : List ℕ → Bool
 zeros [] = true
 zeros (b ∷ l) = eqb b 0 && zeros l
 
+-- how many fields block 0 has
+unfoldable pub fields-in : List ℕ → ℕ
+fields-in img = if is-first img then rom-field else field-count
+
 -- the rest of block 0, and the bytes of the last block after the memory's last
 unfoldable pub filler-of : List ℕ → List ℕ
-filler-of img = drop (2 * field-count) (content-of img 0) ++ drop size (contents-of img page-count 1)
+filler-of img = drop (2 * fields-in img) (content-of img 0) ++ drop size (contents-of img page-count 1)
 
 -- the refusal that a block calls for, or 0: within a block the check comes before the number
 unfoldable pub block-fault : List ℕ → ℕ → ℕ

@@ -1,14 +1,15 @@
 -- What is claimed of the two calls together.
-use Prim.Native.Nat.{ℕ, _%_, _<_}
+use Prim.Native.Nat.{ℕ, _+_, _*_, _%_, _<_}
 use mathlib.Core.Path.{_≡_}
 use mathlib.Core.Bool.{true}
-use mathlib.Core.List.{List}
-use lib.ListN.{length}
+use mathlib.Core.List.{List, _++_}
+use lib.ListN.{length, take, drop}
 use Rattle.memory.specs.Memory.{size, Bytes}
 use Rattle.machine.specs.declared.State.{State}
-use Rattle.machine.specs.State.{well-formed}
+use Rattle.machine.specs.State.{no-rom, well-formed}
 use Rattle.machine.specs.Laws.{Words}
 use Rattle.image_blocks.specs.Image as Image
+use Rattle.image_blocks.specs.Blocks.{put-word}
 use Rattle.image.specs.Calls.{read, write, read-fault}
 
 -- Reading a written image gives back the state and the memory.
@@ -20,13 +21,32 @@ Reads-what-was-written =
     → read (write s m buffer .image) other
     ≡ record { answer = record { number = 0; block = 0; state = s }; memory = m }
 
--- Writing what was read of an accepted image gives back the image's bytes.
+-- an image with another block 0: edition 2 and no read-only part, and the check word made anew
+unfoldable pub renewed : List ℕ → List ℕ
+renewed img =
+    Image.checked (take Image.check-at (put-word (put-word (Image.block-of img 0) 4 Image.edition) (2 * Image.rom-field + 2) no-rom))
+    ++ drop Image.block-size img
+
+-- what writing the state and the memory of an accepted image gives, into a buffer of an image's size
+abbrev pub Writes : List ℕ → List ℕ → List ℕ → Type 0
+Writes img m after =
+    (buffer : List ℕ) → length buffer ≡ Image.image-size
+    → write (read img m .answer .state) (read img m .memory) buffer
+    ≡ record { answer = record { number = 0; state = read img m .answer .state }; image = after }
+
+-- Writing what was read of an accepted image of edition 2 gives back the image's bytes (demand 2, with Q-7).
 abbrev pub Writes-what-was-read : Type 0
 Writes-what-was-read =
-    (img m buffer : List ℕ)
-    → Bytes img → read img m .answer .number ≡ 0 → length buffer ≡ Image.image-size
-    → write (read img m .answer .state) (read img m .memory) buffer
-    ≡ record { answer = record { number = 0; state = read img m .answer .state }; image = img }
+    (img m : List ℕ)
+    → Bytes img → read img m .answer .number ≡ 0 → Image.field-of img 1 ≡ Image.edition
+    → Writes img m img
+
+-- Of an accepted image of edition 1 it gives all bytes back but the edition, the read-only address and the check word of block 0.
+abbrev pub Renews-the-first-edition : Type 0
+Renews-the-first-edition =
+    (img m : List ℕ)
+    → Bytes img → read img m .answer .number ≡ 0 → Image.field-of img 1 ≡ Image.first-edition
+    → Writes img m (renewed img)
 
 -- A read is accepted exactly if the table names no refusal.
 abbrev pub Accepted-exactly : Type 0
