@@ -59,10 +59,11 @@ impl Sum {
 
     fn mix_state(&mut self, state: &State) {
         self.mix_words(words_of(state));
+        self.mix(state.read_only);
     }
 }
 
-/// The words of a state, in the image's order.
+/// The words of a state without the read-only address, in the image's order.
 fn words_of(state: &State) -> impl Iterator<Item = u16> {
     [state.wp, state.pc, state.st, state.flags]
         .into_iter()
@@ -172,7 +173,8 @@ fn psi(seeds: &mut Seeds) -> Psi {
     }
 }
 
-/// A state with these flags and all else well formed; some have PC in the workspace.
+/// A state with these flags and all else well formed, without a read-only part;
+/// some have PC in the workspace.
 fn state(seeds: &mut Seeds, flags: u16) -> State {
     let wp = address(seeds);
     let near = wp.wrapping_add(2 * seeds.below(32));
@@ -184,6 +186,7 @@ fn state(seeds: &mut Seeds, flags: u16) -> State {
         st,
         flags,
         psi: psi(seeds),
+        read_only: State::NO_READ_ONLY,
     }
 }
 
