@@ -24,6 +24,8 @@ pub enum Access {
 
 pub struct Bus<'m> {
     memory: &'m mut Memory,
+    /// The first place that keeps what it has; even.
+    read_only: u32,
     pub psi: Psi,
     /// The current step's pin record.
     pub pins: Pins,
@@ -33,9 +35,10 @@ pub struct Bus<'m> {
 }
 
 impl<'m> Bus<'m> {
-    pub fn new(memory: &'m mut Memory, psi: Psi) -> Bus<'m> {
+    pub fn new(memory: &'m mut Memory, psi: Psi, read_only: u32) -> Bus<'m> {
         Bus {
             memory,
+            read_only,
             psi,
             pins: Pins::default(),
             #[cfg(test)]
@@ -72,15 +75,35 @@ impl<'m> Bus<'m> {
 
     pub fn write_word(&mut self, address: u16, value: u16) {
         self.touch(Access::WriteWord, address);
-        let high = place(address & !1);
-        let [high_byte, low_byte] = value.to_be_bytes();
-        self.memory[high] = high_byte;
-        self.memory[high | 1] = low_byte;
+        if let Some(high) = self.place_to_store(address & !1) {
+            let [high_byte, low_byte] = value.to_be_bytes();
+            self.memory[high] = high_byte;
+            self.memory[high | 1] = low_byte;
+        }
     }
 
     pub fn write_byte(&mut self, address: u16, value: u8) {
         self.touch(Access::WriteByte, address);
-        self.memory[place(address)] = value;
+        if let Some(place) = self.place_to_store(address) {
+            self.memory[place] = value;
+        }
+    }
+
+    /// Where a store goes, if it is not dropped. A word has both bytes on the
+    /// same side of the first read-only place.
+    #[inline(always)]
+    fn place_to_store(&self, address: u16) -> Option<usize> {
+        let place = place(address);
+        if (place as u32) < self.read_only {
+            Some(place)
+        } else {
+            None
+        }
+    }
+
+    /// The first read-only place, which no step moves.
+    pub fn read_only(&self) -> u32 {
+        self.read_only
     }
 
     fn word(&self, address: u16) -> u16 {

@@ -135,7 +135,7 @@ impl<'m> Machine<'m> {
             st: state.st,
             idle: state.flags & FLAG_IDLE != 0,
             no_sample: state.flags & FLAG_NO_SAMPLE != 0,
-            bus: Bus::new(memory, state.psi),
+            bus: Bus::new(memory, state.psi, state.read_only),
         }
     }
 
@@ -153,6 +153,7 @@ impl<'m> Machine<'m> {
             st: self.st,
             flags,
             psi: self.bus.psi,
+            read_only: self.bus.read_only(),
         }
     }
 

@@ -59,10 +59,11 @@ impl Sum {
 
     fn mix_state(&mut self, state: &State) {
         self.mix_words(words_of(state));
+        self.mix(state.read_only);
     }
 }
 
-/// The words of a state, in the image's order.
+/// The words of a state without the read-only address, in the image's order.
 fn words_of(state: &State) -> impl Iterator<Item = u16> {
     [state.wp, state.pc, state.st, state.flags]
         .into_iter()
@@ -172,7 +173,8 @@ fn psi(seeds: &mut Seeds) -> Psi {
     }
 }
 
-/// A state with these flags and all else well formed; some have PC in the workspace.
+/// A state with these flags and all else well formed, without a read-only part;
+/// some have PC in the workspace.
 fn state(seeds: &mut Seeds, flags: u16) -> State {
     let wp = address(seeds);
     let near = wp.wrapping_add(2 * seeds.below(32));
@@ -184,7 +186,41 @@ fn state(seeds: &mut Seeds, flags: u16) -> State {
         st,
         flags,
         psi: psi(seeds),
+        read_only: State::NO_READ_ONLY,
     }
+}
+
+/// A vector's address: of a reset or a level, of LOAD, or of an XOP.
+fn vector(seeds: &mut Seeds) -> u16 {
+    let n = seeds.below(8);
+    match n {
+        0..=4 => 4 * n,
+        5 => 0x3FFC,
+        _ => 0x0040 + 4 * seeds.below(16),
+    }
+}
+
+/// A first read-only address that suits a state and its memory: at an end of the
+/// memory, or at one of the words that the machine is likely to store in.
+fn read_only(seeds: &mut Seeds, state: &State, memory: &[u8]) -> u32 {
+    let address = match seeds.below(8) {
+        0 => 0,
+        1 => 2,
+        2 => 16382,
+        3 => 16384,
+        // in the workspace
+        4 => state.wp.wrapping_add(2 * seeds.below(16)) % 16384,
+        // R13 to R15 of a vector's workspace, or the word after them
+        5 => {
+            let vector = vector(seeds);
+            let wp = get_word(memory, vector) & !1;
+            wp.wrapping_add(26 + 2 * seeds.below(4)) % 16384
+        }
+        // at the PC or soon after
+        6 => state.pc.wrapping_add(2 * seeds.below(16)) % 16384,
+        _ => 2 * seeds.below(8193),
+    };
+    u32::from(address)
 }
 
 /// The levels of the 22 pins: mostly all high, else with one or two low, or any.
@@ -216,15 +252,23 @@ fn record(seeds: &mut Seeds, quiet: u16) -> u32 {
     u32::from(cycles) << 22 | levels(seeds, quiet)
 }
 
-/// How many ways there are to spoil a state.
-const WAYS: u16 = 10;
+/// How many ways there are to spoil a state. The first leave the read-only
+/// address alone.
+const OLD_WAYS: u16 = 10;
+/// Those that leave all its numbers fit for the image's words.
+const WORD_WAYS: u16 = 12;
+const WAYS: u16 = 13;
 
-/// A state that is not well formed, in one of ten ways.
+/// A state that is not well formed, in one of the ways.
 fn spoiled(seeds: &mut Seeds, state: State, way: u16) -> State {
     let mut state = state;
     let psi = &mut state.psi;
     // all ways of the PSI take this number
-    let large = if way < 3 { 0 } else { 16384 + seeds.below(49152) };
+    let large = if way < 3 || way >= OLD_WAYS {
+        0
+    } else {
+        16384 + seeds.below(49152)
+    };
     match way {
         0 => state.wp |= 1,
         1 => state.pc |= 1,
@@ -239,10 +283,22 @@ fn spoiled(seeds: &mut Seeds, state: State, way: u16) -> State {
             psi.directions &= !port;
             psi.latches |= port;
         }
-        _ => {
+        9 => {
             psi.control_and_masks &= !1;
             psi.read_register = (psi.decrementer + 1) % 16384;
+        }
+        // odd
+        10 => state.read_only = u32::from(2 * seeds.below(8192) + 1),
+        // too large
+        11 => state.read_only = u32::from(16385 + seeds.below(49151)),
+        // too large, with a low half that would do
+        _ => {
+            let high = 1 + u32::from(seeds.below(65535));
+            state.read_only = 65536 * high + u32::from(2 * seeds.below(8193));
         }
     }
     state
 }
+
+#[cfg(test)]
+mod input_tests;

@@ -9,13 +9,17 @@ pub const BLOCK_SIZE: usize = 512;
 pub const IMAGE_SIZE: usize = BLOCKS * BLOCK_SIZE;
 
 const FORMAT: u16 = 0x9901;
-const EDITION: u16 = 1;
+/// Without a read-only address; it is read, and no longer written.
+const FIRST_EDITION: u16 = 1;
+/// With a read-only address.
+const EDITION: u16 = 2;
 
 /// A block's content lies between its number and its check word.
 const CONTENT: std::ops::Range<usize> = 2..510;
 const CONTENT_SIZE: usize = 508;
-/// Words of block 0's content that are in use.
-const FIELDS: usize = 14;
+/// Words of block 0's content that are in use; the first edition has one less,
+/// the last.
+const FIELDS: usize = 15;
 
 /// Reads an image: its memory into `memory`, its state into the answer.
 pub fn read_image(image: &[u8], memory: &mut [u8]) -> Answer {
@@ -40,9 +44,11 @@ pub fn read_image(image: &[u8], memory: &mut [u8]) -> Answer {
     }
 
     let content = &image[CONTENT];
-    if word(content, 0) != FORMAT || word(content, 1) != EDITION {
-        return Answer::refused(Answer::FORMAT_WRONG, State::BLANK);
-    }
+    let (fields, read_only) = match (word(content, 0), word(content, 1)) {
+        (FORMAT, FIRST_EDITION) => (FIELDS - 1, State::NO_READ_ONLY),
+        (FORMAT, EDITION) => (FIELDS, u32::from(word(content, FIELDS - 1))),
+        _ => return Answer::refused(Answer::FORMAT_WRONG, State::BLANK),
+    };
     let state = State {
         wp: word(content, 2),
         pc: word(content, 3),
@@ -58,10 +64,11 @@ pub fn read_image(image: &[u8], memory: &mut [u8]) -> Answer {
             phase: word(content, 12),
             pending: word(content, 13),
         },
+        read_only,
     };
     let last_block = &image[(BLOCKS - 1) * BLOCK_SIZE..];
     let last_used = MEMORY_SIZE - (BLOCKS - 2) * CONTENT_SIZE;
-    let filler_is_zero = all_zero(&content[2 * FIELDS..]) && all_zero(&last_block[CONTENT][last_used..]);
+    let filler_is_zero = all_zero(&content[2 * fields..]) && all_zero(&last_block[CONTENT][last_used..]);
     if !state.is_well_formed() || !filler_is_zero {
         return Answer::refused(Answer::FIELDS_NOT_WELL_FORMED, State::BLANK);
     }
@@ -101,6 +108,8 @@ pub fn write_image(state: State, memory: &[u8], image: &mut [u8]) -> Answer {
         psi.read_register,
         psi.phase,
         psi.pending,
+        // even and at most 16384, or the state would not be well formed
+        state.read_only as u16,
     ];
     let mut content = [0; 2 * FIELDS];
     for (place, field) in content.chunks_exact_mut(2).zip(fields) {

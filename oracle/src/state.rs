@@ -1,5 +1,6 @@
 //! The state outside the memory, and the answer of a call.
 
+use crate::bus::MEMORY_SIZE;
 use crate::cpu::Step;
 use crate::psi::Psi;
 
@@ -9,9 +10,9 @@ pub const FLAG_NO_SAMPLE: u16 = 2;
 /// The largest flags of a well-formed state, which has at most one of the two.
 const FLAGS_MAX: u16 = FLAG_NO_SAMPLE;
 
-/// The machine's state. Every field is the 16-bit word that the image has for
-/// it, so a state can hold any words, well formed or not.
-#[derive(Clone, Copy, Debug, Default, PartialEq, Eq)]
+/// The machine's state. Every field but the last is the 16-bit word that the
+/// image has for it, so a state can hold any words, well formed or not.
+#[derive(Clone, Copy, Debug, PartialEq, Eq)]
 pub struct State {
     pub wp: u16,
     pub pc: u16,
@@ -19,20 +20,32 @@ pub struct State {
     /// Weight 1: idle; weight 2: no-sample.
     pub flags: u16,
     pub psi: Psi,
+    /// Stores from this address of the memory on are dropped. Of 32 bits, as a
+    /// larger memory needs them.
+    pub read_only: u32,
 }
 
 impl State {
-    /// All 0.
+    /// The read-only address of a machine that stores everywhere.
+    pub const NO_READ_ONLY: u32 = MEMORY_SIZE as u32;
+
+    /// All 0, and no read-only part.
     pub const BLANK: State = State {
         wp: 0,
         pc: 0,
         st: 0,
         flags: 0,
         psi: Psi::BLANK,
+        read_only: State::NO_READ_ONLY,
     };
 
     pub fn is_well_formed(&self) -> bool {
-        self.wp % 2 == 0 && self.pc % 2 == 0 && self.flags <= FLAGS_MAX && self.psi.is_well_formed()
+        self.wp % 2 == 0
+            && self.pc % 2 == 0
+            && self.flags <= FLAGS_MAX
+            && self.psi.is_well_formed()
+            && self.read_only % 2 == 0
+            && self.read_only <= State::NO_READ_ONLY
     }
 }
 

@@ -30,6 +30,7 @@ fn sample() -> (State, Vec<u8>) {
             phase: 63,
             pending: 1,
         },
+        read_only: 0x2A5C,
     };
     let mut random = Random(11);
     (state, (0..MEMORY_SIZE).map(|_| random.word() as u8).collect())
@@ -82,12 +83,12 @@ fn layout() {
         assert_eq!(sum % 65536, 65535);
     }
     let fields = [
-        0x9901, 1, 0x8302, 0xFFFE, 0xA5C3, 2, 0x1235, 0xF00F, 0x8001, 16383, 300, 301, 63, 1,
+        0x9901, 2, 0x8302, 0xFFFE, 0xA5C3, 2, 0x1235, 0xF00F, 0x8001, 16383, 300, 301, 63, 1, 0x2A5C,
     ];
     for (i, field) in fields.iter().enumerate() {
         assert_eq!(word(&image, 2 + 2 * i), *field);
     }
-    assert!(image[2 + 28..510].iter().all(|&byte| byte == 0));
+    assert!(image[2 + 30..510].iter().all(|&byte| byte == 0));
     for (address, &byte) in memory.iter().enumerate() {
         assert_eq!(image[512 * (1 + address / 508) + 2 + address % 508], byte);
     }
@@ -209,7 +210,7 @@ fn refusals_of_blocks() {
 #[test]
 fn refusals_of_format_and_fields() {
     // 8 before 9, and after 6 and 7 of any block
-    for (field, value) in [(0, 0x9902), (0, 0), (1, 0), (1, 2), (1, 0x0101)] {
+    for (field, value) in [(0, 0x9902), (0, 0), (1, 0), (1, 3), (1, 0x0101), (1, 0x0102)] {
         let mut image = sample_image();
         put(&mut image, 2 + 2 * field, value);
         mend(&mut image, 0);
@@ -236,6 +237,13 @@ fn refusals_of_format_and_fields() {
         (11, 16384),
         (12, 64),
         (13, 2),
+        (14, 1),
+        (14, 0x2A5D),
+        (14, 16383),
+        (14, 16385),
+        (14, 16386),
+        (14, 0xFFFE),
+        (14, 0xFFFF),
     ] {
         let mut image = sample_image();
         put(&mut image, 2 + 2 * field, value);
@@ -243,7 +251,7 @@ fn refusals_of_format_and_fields() {
         expect(&image, 9, 0);
     }
     // 9: every byte of the filler
-    let fillers = (2 + 28..510).chain(33 * 512 + 2 + 128..33 * 512 + 510);
+    let fillers = (2 + 30..510).chain(33 * 512 + 2 + 128..33 * 512 + 510);
     for at in fillers {
         let mut image = sample_image();
         image[at] = 1;
@@ -306,7 +314,7 @@ fn reading_with_both_flags() {
         mend(&mut worse, block);
         expect(&worse, 7, block as u16);
     }
-    for (field, value) in [(0, 0x9902), (1, 2)] {
+    for (field, value) in [(0, 0x9902), (1, 3)] {
         let mut worse = image.clone();
         put(&mut worse, 2 + 2 * field, value);
         mend(&mut worse, 0);
@@ -323,5 +331,157 @@ fn reading_with_both_flags() {
             refused(0, 0, State { flags, ..state })
         );
         assert_eq!(read, memory);
+    }
+}
+
+// ---- the two editions ----
+
+/// The sample's image as the first edition has it.
+fn first_edition() -> Vec<u8> {
+    let mut image = sample_image();
+    put(&mut image, 2 + 2, 1);
+    put(&mut image, 2 + 2 * 14, 0);
+    mend(&mut image, 0);
+    image
+}
+
+/// Reading it must give the sample with this read-only address.
+fn expect_read(image: &[u8], read_only: u32) -> State {
+    let (state, memory) = sample();
+    let state = State { read_only, ..state };
+    let mut read = vec![0x77; MEMORY_SIZE];
+    assert_eq!(read_image(image, &mut read), refused(0, 0, state));
+    assert!(read == memory);
+    state
+}
+
+#[test]
+fn the_first_edition_comes_out_as_the_second() {
+    let (_, memory) = sample();
+    let first = first_edition();
+    let state = expect_read(&first, 16384);
+    let mut second = vec![0xEE; IMAGE_SIZE];
+    assert_eq!(write_image(state, &memory, &mut second), refused(0, 0, state));
+    // Three words of block 0 differ: the edition, the fifteenth word, the check.
+    for at in (0..IMAGE_SIZE).step_by(2) {
+        let words = (word(&first, at), word(&second, at));
+        match at {
+            4 => assert_eq!(words, (1, 2)),
+            30 => assert_eq!(words, (0, 16384)),
+            510 => assert_eq!(words.0.wrapping_sub(words.1), 16385),
+            _ => assert_eq!(words.0, words.1),
+        }
+    }
+    // And it is read as the same.
+    assert_eq!(expect_read(&second, 16384), state);
+}
+
+#[test]
+fn the_fifteenth_word() {
+    let mut second = sample_image();
+    let mut first = first_edition();
+    for number in 0..=0xFFFF {
+        put(&mut second, 30, number);
+        mend(&mut second, 0);
+        if number % 2 == 0 && number <= 16384 {
+            let state = expect_read(&second, u32::from(number));
+            if number % 1024 == 0 || number == 2 || number == 16382 {
+                let (_, memory) = sample();
+                let mut again = vec![0xEE; IMAGE_SIZE];
+                assert_eq!(write_image(state, &memory, &mut again), refused(0, 0, state));
+                assert!(again == second);
+            }
+        } else if number % 64 < 4 {
+            expect(&second, 9, 0);
+        }
+        // It is filler in the first edition.
+        if number != 0 && number % 64 < 4 {
+            put(&mut first, 30, number);
+            mend(&mut first, 0);
+            expect(&first, 9, 0);
+        }
+    }
+}
+
+#[test]
+fn the_filler_of_the_first_edition() {
+    for at in (2 + 28..510).chain(33 * 512 + 2 + 128..33 * 512 + 510) {
+        let mut image = first_edition();
+        image[at] = 1;
+        mend(&mut image, at / 512);
+        expect(&image, 9, 0);
+    }
+    // Fields that are not well formed, as in the second.
+    for (field, value) in [(2, 0x8303), (3, 0xFFFF), (5, 3), (9, 16384), (12, 64), (13, 2)] {
+        let mut image = first_edition();
+        put(&mut image, 2 + 2 * field, value);
+        mend(&mut image, 0);
+        expect(&image, 9, 0);
+    }
+}
+
+#[test]
+fn editions_that_there_are_not() {
+    for edition in [0, 3, 4, 0x0100, 0x0101, 0x0102, 0x0200, 0x8001, 0x8002, 0xFFFF] {
+        // 8, with a fifteenth word that would be right or wrong: 8 comes before 9.
+        for fifteenth in [0, 2, 16384, 1, 16386, 0xFFFF] {
+            let mut image = sample_image();
+            put(&mut image, 4, edition);
+            put(&mut image, 30, fifteenth);
+            expect(&image, 6, 0);
+            mend(&mut image, 0);
+            expect(&image, 8, 0);
+            image[33 * 512 + 200] = 1; // filler
+            mend(&mut image, 33);
+            expect(&image, 8, 0);
+        }
+    }
+    // A wrong format word, in either edition, with a wrong fifteenth word too.
+    for edition in [1, 2] {
+        for fifteenth in [0, 1, 16386] {
+            let mut image = sample_image();
+            put(&mut image, 2, 0x9900);
+            put(&mut image, 4, edition);
+            put(&mut image, 30, fifteenth);
+            mend(&mut image, 0);
+            expect(&image, 8, 0);
+        }
+    }
+    // An image of the second edition that is said to be of the first.
+    let mut image = sample_image();
+    put(&mut image, 4, 1);
+    mend(&mut image, 0);
+    expect(&image, 9, 0);
+    put(&mut image, 30, 0);
+    mend(&mut image, 0);
+    expect_read(&image, 16384);
+    // And the other way round: all of memory is read-only.
+    put(&mut image, 4, 2);
+    mend(&mut image, 0);
+    expect_read(&image, 0);
+}
+
+#[test]
+fn writing_a_wrong_read_only_address() {
+    let (good, memory) = sample();
+    let wrong = [
+        1,
+        16383,
+        16385,
+        16386,
+        32768,
+        65535,
+        65536,
+        65536 + 2,
+        65536 + 16384,
+    ];
+    for read_only in wrong.into_iter().chain([0xFFFF_0000, 4_294_967_295]) {
+        let state = State { read_only, ..good };
+        let mut image = vec![0xEE; IMAGE_SIZE];
+        assert_eq!(write_image(state, &memory, &mut image), refused(2, 0, state));
+        // 1 and 5 come before.
+        assert_eq!(write_image(state, &memory[1..], &mut image), refused(1, 0, state));
+        assert_eq!(write_image(state, &memory, &mut image[1..]), refused(5, 0, state));
+        assert!(image.iter().all(|&byte| byte == 0xEE));
     }
 }

@@ -182,6 +182,55 @@ fn the_last_word() {
 }
 
 #[test]
+fn a_read_only_part() {
+    let folder = Folder::new("read-only");
+    let out = folder.file("out");
+    // A R1,R2 is not stored in R2, at 0304h; the line is the same.
+    let mut b = example();
+    b.state.read_only = 0x0304;
+    let image = folder.put("image", &image_of(&b));
+    let pins = folder.put("pins", &pins(&[1, QUIET, QUIET]));
+    assert_eq!(
+        replay(&image, &pins, &out),
+        ok("answer 0 steps 2 unassigned 1 pc 0104 wp 0300 st 8800 word")
+    );
+    b.state.pc = 0x0104;
+    b.state.st = 0x8800;
+    assert!(fs::read(&out).unwrap() == image_of(&b));
+}
+
+#[test]
+fn an_image_of_the_first_edition() {
+    let folder = Folder::new("first-edition");
+    let out = folder.file("out");
+    let second = image_of(&example());
+    let mut first = second.clone();
+    first[5] = 1;
+    first[30..32].fill(0);
+    let check = u16::from_be_bytes([first[510], first[511]]).wrapping_add(1 + 16384);
+    first[510..512].copy_from_slice(&check.to_be_bytes());
+    let image = folder.put("image", &first);
+    // With no steps it comes out as the second edition, without a read-only part.
+    let none = folder.put("pins", &pins(&[1]));
+    assert_eq!(
+        replay(&image, &none, &out),
+        ok("answer 0 steps 0 unassigned 0 pc 0100 wp 0300 st 0000 none")
+    );
+    assert!(fs::read(&out).unwrap() == second);
+    // With steps it stores everywhere.
+    let two = folder.put("pins", &pins(&[1, QUIET, QUIET]));
+    assert_eq!(
+        replay(&image, &two, &out),
+        ok("answer 0 steps 2 unassigned 1 pc 0104 wp 0300 st 8800 word")
+    );
+    let mut after = example();
+    after.put(0x0304, 0x8000);
+    after.state.pc = 0x0104;
+    after.state.st = 0x8800;
+    assert!(fs::read(&out).unwrap() == image_of(&after));
+}
+
+#[test]
 fn out_may_be_the_image_itself() {
     let folder = Folder::new("same");
     let image = folder.put("image", &image_of(&example()));

@@ -278,6 +278,7 @@ fn power_up_enters_reset() {
         st: 0,
         flags: 2,
         psi: Psi::BLANK,
+        read_only: 16384,
     };
     assert_eq!(
         answer,
@@ -320,6 +321,7 @@ pub fn ill_formed() -> Vec<State> {
         ..State::BLANK
     };
     let psi = |psi: Psi| State { psi, ..good };
+    let read_only = |read_only: u32| State { read_only, ..good };
     vec![
         State { wp: WP + 1, ..good },
         State { pc: PC + 1, ..good },
@@ -379,6 +381,22 @@ pub fn ill_formed() -> Vec<State> {
             read_register: 1,
             ..Psi::BLANK
         }),
+        // odd
+        read_only(1),
+        read_only(8191),
+        read_only(16383),
+        // too large, the last ones with a low half that would do
+        read_only(16385),
+        read_only(16386),
+        read_only(32768),
+        read_only(65534),
+        read_only(65535),
+        read_only(4_294_967_295),
+        read_only(4_294_967_294),
+        read_only(65536),
+        read_only(65536 + 2),
+        read_only(65536 + 16384),
+        read_only(0xFFFF_0000),
     ]
 }
 
@@ -451,6 +469,7 @@ fn refusals_of_the_run_in_order() {
         st: 0xFFFF,
         flags: 2,
         psi,
+        read_only: 0,
     };
     assert_eq!(run(&mut memory, extreme, &[], 0, 1), refused(0, extreme));
     let beyond = State { flags: 3, ..extreme };
@@ -544,6 +563,11 @@ fn random_machine(random: &mut Random) -> (Vec<u8>, State, Vec<u32>) {
             },
             phase: random.below(64) as u16,
             pending: random.below(2) as u16,
+        },
+        read_only: if random.below(2) == 0 {
+            State::NO_READ_ONLY
+        } else {
+            2 * random.below(8193) as u32
         },
     };
     let records = (0..64)

@@ -1,16 +1,23 @@
-//! Images changed in one place or two, most of them with the block's check word
-//! made right again.
+//! Images of both editions, changed in one place or two, most of them with the
+//! block's check word made right again.
 
-use super::{spoiled, words_of, WAYS};
+use super::{spoiled, words_of, OLD_WAYS, WORD_WAYS};
 use crate::seeds::Seeds;
 use crate::{State, BLOCKS, BLOCK_SIZE};
 
 /// How many kinds of damage there are.
-pub const KINDS: u16 = 20;
+pub const KINDS: u16 = 24;
 /// Classes of places: the first block, one in the middle, the last.
 pub const PLACES: u16 = 3;
 
+/// The editions of images.
+pub const FIRST_EDITION: u16 = 1;
+pub const SECOND_EDITION: u16 = 2;
+
 const LAST: usize = BLOCKS - 1;
+/// Numbers of words in block 0.
+const EDITION: usize = 2;
+const READ_ONLY: usize = 15;
 /// The check word's number in its block.
 const CHECK: usize = BLOCK_SIZE / 2 - 1;
 
@@ -57,20 +64,41 @@ fn among(seeds: &mut Seeds, first: usize, count: u16) -> usize {
     first + usize::from(seeds.below(count))
 }
 
-/// Puts a state into block 0, well formed or not.
-pub fn put_state(image: &mut [u8], state: &State) {
+/// Puts a word of block 0 in place.
+fn put_and_mend(image: &mut [u8], n: usize, word: u16) {
+    put(image, 0, n, word);
+    mend(image, 0);
+}
+
+/// Puts a state into block 0 of an image of this edition, well formed or not.
+pub fn put_state(image: &mut [u8], state: &State, edition: u16) {
     for (n, word) in words_of(state).enumerate() {
         put(image, 0, 3 + n, word);
+    }
+    if edition == SECOND_EDITION {
+        put(image, 0, READ_ONLY, state.read_only as u16);
     }
     mend(image, 0);
 }
 
-/// Damage of a kind, in a block of the class where the kind leaves a choice.
-/// The last kind is none, and so are any further.
-pub fn damage(image: &mut [u8], seeds: &mut Seeds, state: State, kind: u16, place: u16) {
-    if kind < WAYS {
+/// Makes an image of the second edition one of the first.
+pub fn make_first_edition(image: &mut [u8]) {
+    put(image, 0, EDITION, FIRST_EDITION);
+    put_and_mend(image, READ_ONLY, 0);
+}
+
+/// Damage of a kind to an image of this edition, in a block of the class where
+/// the kind leaves a choice. The last kind is none, and so are any further.
+pub fn damage(image: &mut [u8], seeds: &mut Seeds, state: State, edition: u16, kind: u16, place: u16) {
+    if kind < OLD_WAYS {
         let bad = spoiled(seeds, state, kind);
-        put_state(image, &bad);
+        put_state(image, &bad, edition);
+        return;
+    }
+    if kind < WORD_WAYS {
+        // the read-only address alone; the first edition has filler there
+        let bad = spoiled(seeds, state, kind);
+        put_and_mend(image, READ_ONLY, bad.read_only as u16);
         return;
     }
     if kind >= KINDS - 1 {
@@ -82,25 +110,38 @@ pub fn damage(image: &mut [u8], seeds: &mut Seeds, state: State, kind: u16, plac
         _ => LAST,
     };
     match kind {
-        10 => {
+        12 => {
             let n = among(seeds, 0, 255);
             change(image, seeds, block, n);
         }
-        11 => change(image, seeds, block, CHECK),
-        12 => change_and_mend(image, seeds, block, 0),
+        13 => change(image, seeds, block, CHECK),
+        14 => change_and_mend(image, seeds, block, 0),
         // format, edition
-        13 => change_and_mend(image, seeds, 0, 1),
-        14 => change_and_mend(image, seeds, 0, 2),
+        15 => change_and_mend(image, seeds, 0, 1),
+        16 => change_and_mend(image, seeds, 0, EDITION),
+        17 => {
+            let word = seeds.below(5);
+            put_and_mend(image, EDITION, word);
+        }
+        // any right read-only address; the first edition has filler there
+        18 => {
+            let word = 2 * seeds.below(8193);
+            put_and_mend(image, READ_ONLY, word);
+        }
         // filler
-        15 => {
-            let n = among(seeds, 15, 240);
+        19 => {
+            let n = if edition == SECOND_EDITION {
+                among(seeds, 16, 239)
+            } else {
+                among(seeds, 15, 240)
+            };
             change_and_mend(image, seeds, 0, n);
         }
-        16 => {
+        20 => {
             let n = among(seeds, 65, 190);
             change_and_mend(image, seeds, LAST, n);
         }
-        17 => {
+        21 => {
             let n = among(seeds, 1, 254);
             change_and_mend(image, seeds, block, n);
         }

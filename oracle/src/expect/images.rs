@@ -1,9 +1,9 @@
-//! Images written, damaged and read, with lent parts of the right and of wrong
-//! lengths.
+//! Images written, made ones of the first edition or not, damaged, read, and
+//! written again, with lent parts of the right and of wrong lengths.
 
 use std::fmt::Write;
 
-use super::damage::{damage, put_state, KINDS, PLACES};
+use super::damage::{damage, make_first_edition, put_state, FIRST_EDITION, KINDS, PLACES, SECOND_EDITION};
 use super::{fill, spoiled, state, sum_of, Sum, WAYS};
 use crate::seeds::Seeds;
 use crate::state::{FLAG_IDLE, FLAG_NO_SAMPLE};
@@ -22,6 +22,18 @@ fn size(seeds: &mut Seeds, whole: usize) -> usize {
     } else {
         whole
     }
+}
+
+/// A read-only address: the first, the last, or any.
+fn any_read_only(seeds: &mut Seeds) -> u32 {
+    let address = match seeds.below(6) {
+        0 => 0,
+        1 => 2,
+        2 => 16382,
+        3 => 16384,
+        _ => 2 * seeds.below(8193),
+    };
+    u32::from(address)
 }
 
 /// A state, well formed or not.
@@ -46,16 +58,19 @@ struct Outcome {
 struct Lent {
     memory: Vec<u8>,
     image: Vec<u8>,
+    /// What was read, written again.
+    again: Vec<u8>,
 }
 
 impl Lent {
-    /// Writes an image, and damages it. The sum is of the answers. A state may
-    /// have both flags: its image then has them too, and the sum is also of the
-    /// image as the refused writes left it.
-    fn write(&mut self, seeds: &mut Seeds, kind: u16, place: u16) -> Sum {
+    /// Writes an image, makes it one of the edition, and damages it. The sum is of
+    /// the answers. A state may have both flags: its image then has them too, and
+    /// the sum is also of the image as the refused writes left it.
+    fn write(&mut self, seeds: &mut Seeds, edition: u16, kind: u16, place: u16) -> Sum {
         fill(&mut self.memory, seeds);
         let flags = seeds.below(4);
-        let state = state(seeds, flags);
+        let mut state = state(seeds, flags);
+        state.read_only = any_read_only(seeds);
 
         let given = any_state(seeds, state);
         let from = size(seeds, MEMORY_SIZE);
@@ -73,15 +88,18 @@ impl Lent {
             sum.mix_bytes(&self.image);
             // The case is to have an image of its own all the same.
             write_image(State { flags: 0, ..state }, &self.memory, &mut self.image);
-            put_state(&mut self.image, &state);
+            put_state(&mut self.image, &state, SECOND_EDITION);
         }
-        damage(&mut self.image, seeds, state, kind, place);
+        if edition == FIRST_EDITION {
+            make_first_edition(&mut self.image);
+        }
+        damage(&mut self.image, seeds, state, edition, kind, place);
         sum
     }
 
     /// One case: the memory is left as the image is read into it.
-    fn one(&mut self, seeds: &mut Seeds, kind: u16, place: u16) -> Outcome {
-        let mut sum = self.write(seeds, kind, place);
+    fn one(&mut self, seeds: &mut Seeds, edition: u16, kind: u16, place: u16) -> Outcome {
+        let mut sum = self.write(seeds, edition, kind, place);
         fill(&mut self.memory, seeds);
 
         let from = size(seeds, IMAGE_SIZE);
@@ -94,6 +112,12 @@ impl Lent {
 
         let answer = read_image(&self.image, &mut self.memory);
         sum.mix_state(&answer.state);
+        if answer.number == Answer::ACCEPTED {
+            let written = write_image(answer.state, &self.memory, &mut self.again);
+            sum.mix(u32::from(written.number));
+            sum.mix_state(&written.state);
+            sum.mix_bytes(&self.again);
+        }
         Outcome {
             answer,
             answers: sum.0,
@@ -107,9 +131,10 @@ impl Lent {
         let mut accepted = 0;
         let mut sum = Sum::default();
         for _ in 0..CASES {
+            let edition = 1 + seeds.below(2);
             let kind = seeds.below(2 * KINDS);
             let place = seeds.below(PLACES);
-            let outcome = self.one(seeds, kind, place);
+            let outcome = self.one(seeds, edition, kind, place);
             sum.mix(u32::from(outcome.answer.number));
             sum.mix(u32::from(outcome.answer.block));
             sum.mix(outcome.answers);
@@ -147,16 +172,19 @@ pub fn expect() -> String {
     let mut lent = Lent {
         memory: vec![0; MEMORY_SIZE],
         image: vec![0; IMAGE_SIZE],
+        again: vec![0; IMAGE_SIZE],
     };
     for kind in 0..KINDS {
         for place in 0..PLACES {
-            let outcome = lent.one(&mut seeds, kind, place);
-            let Answer { number, block, .. } = outcome.answer;
-            let (answers, memory, image) = (outcome.answers, outcome.memory, outcome.image);
-            let _ = writeln!(
-                text,
-                "{kind} {number} {block} {answers:08x} {memory:08x} {image:08x}"
-            );
+            for edition in FIRST_EDITION..=SECOND_EDITION {
+                let outcome = lent.one(&mut seeds, edition, kind, place);
+                let Answer { number, block, .. } = outcome.answer;
+                let (answers, memory, image) = (outcome.answers, outcome.memory, outcome.image);
+                let _ = writeln!(
+                    text,
+                    "{kind} {edition} {number} {block} {answers:08x} {memory:08x} {image:08x}"
+                );
+            }
         }
     }
     for _ in 0..LINES {

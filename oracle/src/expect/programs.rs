@@ -54,14 +54,33 @@ fn instruction(seeds: &mut Seeds) -> u16 {
 
 /// The theme that reads the clock.
 pub const CLOCK: u16 = 4;
+/// The theme of entries and stores.
+pub const STORES: u16 = 5;
 
-/// A word of the program's theme: X, the CRU, STCR of 14 bits, or any.
+/// An entry, a return, or an operation on two operands, the second one in memory.
+fn entry_or_store(seeds: &mut Seeds) -> u16 {
+    match seeds.below(8) {
+        0 => 0x0400 + seeds.below(64),
+        1 | 2 => 0x2C00 + seeds.below(1024),
+        3 => 0x0380,
+        _ => {
+            let operation = seeds.below(12) * 4096;
+            // *Rn, an address, *Rn+
+            let mode = seeds.below(3) * 1024;
+            0x4400 + operation + mode + seeds.below(1024)
+        }
+    }
+}
+
+/// A word of the program's theme: X, the CRU, STCR of 14 bits, entries and
+/// stores, or any.
 fn favoured(seeds: &mut Seeds, theme: u16) -> u16 {
     match theme {
         1 => 0x0480 + seeds.below(64),
         2 => 0x3000 + seeds.below(2048),
         3 => single_cru_bit(seeds),
         CLOCK => 0x3780 + seeds.below(64),
+        STORES => entry_or_store(seeds),
         _ => address(seeds),
     }
 }

@@ -1,10 +1,14 @@
 //! Runs of generated programs and of any bytes, with pin records, stop addresses
 //! and refused calls. What each step was is asked in single steps on a copy.
-//! Then single steps in clock mode, which tell where the read register moves.
+//! Then single steps in clock mode, which tell where the read register moves, and
+//! single steps with a read-only part, which tell what becomes of dropped stores.
 
 use std::fmt::Write;
 
-use super::{address, address_of, fill, programs, put_word, record, spoiled, state, sum_of, Sum, WAYS};
+use super::{
+    address, address_of, fill, programs, put_word, read_only, record, spoiled, state, sum_of, Sum, OLD_WAYS,
+    WAYS,
+};
 use crate::seeds::Seeds;
 use crate::{power_up, run, Answer, Memory, State, MEMORY_SIZE};
 
@@ -25,6 +29,13 @@ const CASES: u32 = 32;
 /// Single steps of a case.
 const STEPS: usize = 24;
 
+/// Lines of the section with a read-only part.
+const READ_ONLY_LINES: u32 = 64;
+/// Memories of one of these lines.
+const READ_ONLY_MEMORIES: u32 = 8;
+/// Cases on one of these memories, of as many single steps.
+const READ_ONLY_CASES: u32 = 16;
+
 /// A stop address: odd, anywhere, or at or soon after `pc`.
 fn stop(seeds: &mut Seeds, pc: u16) -> u16 {
     match seeds.below(8) {
@@ -41,10 +52,11 @@ fn run_short(memory: &mut Memory, seeds: &mut Seeds, state: State, records: &[u3
     run(&mut memory[..size], state, records, steps, 1)
 }
 
-/// A run that is refused, for one reason or for two.
-fn run_refused(memory: &mut Memory, seeds: &mut Seeds, state: State, records: &[u32]) -> Answer {
+/// A run that is refused, for one reason or for two. A state is spoiled in one of
+/// the first `ways`.
+fn run_refused(memory: &mut Memory, seeds: &mut Seeds, state: State, records: &[u32], ways: u16) -> Answer {
     let many = records.len() + 1 + usize::from(seeds.below(3));
-    let way = seeds.below(WAYS);
+    let way = seeds.below(ways);
     let bad = spoiled(seeds, state, way);
     match seeds.below(5) {
         0 => run_short(memory, seeds, state, records, 1),
@@ -59,6 +71,15 @@ fn run_refused(memory: &mut Memory, seeds: &mut Seeds, state: State, records: &[
 fn records(seeds: &mut Seeds) -> Vec<u32> {
     let quiet = 4 << seeds.below(5);
     (0..RECORDS).map(|_| record(seeds, quiet)).collect()
+}
+
+/// All that a run answers.
+fn mix_answer(sum: &mut Sum, answer: &Answer) {
+    sum.mix(u32::from(answer.number));
+    sum.mix(answer.steps as u32);
+    sum.mix(answer.unassigned as u32);
+    sum.mix_step(answer.last);
+    sum.mix_state(&answer.state);
 }
 
 /// What the calls of a line came to.
@@ -90,7 +111,7 @@ impl Course {
     /// single steps first.
     fn call(&mut self, memory: &mut Memory, seeds: &mut Seeds, state: State, records: &[u32]) -> Answer {
         if seeds.once_in(8) {
-            return run_refused(memory, seeds, state, records);
+            return run_refused(memory, seeds, state, records, OLD_WAYS);
         }
         let from = usize::from(seeds.below(256));
         let steps = usize::from(seeds.below(769));
@@ -100,11 +121,7 @@ impl Course {
     }
 
     fn follow(&mut self, answer: &Answer) {
-        self.sum.mix(u32::from(answer.number));
-        self.sum.mix(answer.steps as u32);
-        self.sum.mix(answer.unassigned as u32);
-        self.sum.mix_step(answer.last);
-        self.sum.mix_state(&answer.state);
+        mix_answer(&mut self.sum, answer);
         self.steps += answer.steps;
         self.unassigned += answer.unassigned;
     }
@@ -209,6 +226,66 @@ impl Reading {
     }
 }
 
+/// A state with a read-only part; half of them are in clock mode.
+fn read_only_state(seeds: &mut Seeds, memory: &Memory) -> State {
+    let mut state = state(seeds, 0);
+    if seeds.once_in(2) {
+        state.psi.read_register = seeds.below(16384);
+        state.psi.control_and_masks |= 1;
+    }
+    state.read_only = read_only(seeds, &state, memory);
+    state
+}
+
+/// What the cases of a line with a read-only part came to.
+#[derive(Default)]
+struct Dropping {
+    sum: Sum,
+    /// Cases that ended otherwise than without the read-only part.
+    other: u32,
+}
+
+impl Dropping {
+    /// One case: now and then a refused call first, then a run without the
+    /// read-only part on a copy of the memory, then single steps with it.
+    fn case(&mut self, memory: &mut Memory, seeds: &mut Seeds, records: &[u32]) {
+        let mut at = read_only_state(seeds, memory);
+        if seeds.once_in(4) {
+            let answer = run_refused(memory, seeds, at, records, WAYS);
+            mix_answer(&mut self.sum, &answer);
+        }
+        let from = usize::from(seeds.below(256));
+
+        let mut copy = *memory;
+        let mut free = at;
+        free.read_only = State::NO_READ_ONLY;
+        let answer = run(&mut copy, free, &records[from..], STEPS, 1);
+        assert_eq!((answer.number, answer.steps), (Answer::ACCEPTED, STEPS));
+        mix_answer(&mut self.sum, &answer);
+        free = answer.state;
+
+        for i in from..from + STEPS {
+            let answer = run(memory, at, &records[i..], 1, 1);
+            assert_eq!((answer.number, answer.steps), (Answer::ACCEPTED, 1));
+            mix_answer(&mut self.sum, &answer);
+            at = answer.state;
+        }
+        if at.wp != free.wp || at.pc != free.pc || at.st != free.st || *memory != copy {
+            self.other += 1;
+        }
+    }
+
+    /// One memory: a program, its records, its cases, and what they leave.
+    fn one(&mut self, memory: &mut Memory, seeds: &mut Seeds) {
+        programs::fill(memory, seeds, programs::STORES);
+        let records = records(seeds);
+        for _ in 0..READ_ONLY_CASES {
+            self.case(memory, seeds, &records);
+        }
+        self.sum.mix_bytes(memory);
+    }
+}
+
 /// Calls on memories of another size than the machine's.
 fn other_sizes() -> String {
     let mut long = [0; MEMORY_SIZE + 1];
@@ -248,6 +325,13 @@ pub fn expect() -> String {
             reading.one(&mut memory, &mut seeds);
         }
         let _ = writeln!(text, "{} {} {:08x}", reading.moved, reading.frozen, reading.sum.0);
+    }
+    for _ in 0..READ_ONLY_LINES {
+        let mut dropping = Dropping::default();
+        for _ in 0..READ_ONLY_MEMORIES {
+            dropping.one(&mut memory, &mut seeds);
+        }
+        let _ = writeln!(text, "{} {:08x}", dropping.other, dropping.sum.0);
     }
     text
 }

@@ -1,9 +1,9 @@
-//! Every word executed five times, from different states and memories, once of
-//! them through X.
+//! Every word executed seven times, from different states and memories, two of
+//! them through X, and the last two with a read-only part.
 
 use std::fmt::Write;
 
-use super::{address_of, fill, get_word, put_word, record, state, sum_of, value, Sum};
+use super::{address_of, fill, get_word, put_word, read_only, record, state, sum_of, value, Sum};
 use crate::cpu::Machine;
 use crate::psi::Pins;
 use crate::seeds::Seeds;
@@ -13,7 +13,12 @@ use crate::{Memory, MEMORY_SIZE};
 const WORDS: u16 = 2048;
 /// Lines of a pass over all words.
 const PASS: u16 = 32;
-const LINES: u16 = 160;
+const LINES: u16 = 224;
+/// The passes through X.
+const THROUGH: u16 = 4;
+const THROUGH_AGAIN: u16 = 6;
+/// The first pass with a read-only part.
+const READ_ONLY: u16 = 5;
 
 /// R12: around the PSI's bits, before the wrap of the bit number, or any.
 fn base(seeds: &mut Seeds) -> u16 {
@@ -36,10 +41,11 @@ fn chained(memory: &mut Memory, seeds: &mut Seeds, wp: u16, word: u16) -> u16 {
     0x0480 + first
 }
 
-/// Executes a word from a new state, by itself or through X: whether it was
-/// unassigned.
-fn one(memory: &mut Memory, seeds: &mut Seeds, word: u16, through: bool, sum: &mut Sum) -> bool {
-    let before = state(seeds, 0);
+/// Executes a word from a new state, by itself or through X, as its pass has it:
+/// whether it was unassigned. All words are put in place before any part of the
+/// memory is read-only.
+fn one(memory: &mut Memory, seeds: &mut Seeds, word: u16, pass: u16, sum: &mut Sum) -> bool {
+    let mut before = state(seeds, 0);
     let (wp, pc) = (before.wp, before.pc);
     for n in 0..16 {
         let content = if n == 12 { base(seeds) } else { value(seeds, wp) };
@@ -47,11 +53,14 @@ fn one(memory: &mut Memory, seeds: &mut Seeds, word: u16, through: bool, sum: &m
     }
     put_word(memory, pc, value(seeds, wp));
     put_word(memory, pc.wrapping_add(2), value(seeds, pc));
-    let first = if through {
+    let first = if pass == THROUGH || pass == THROUGH_AGAIN {
         chained(memory, seeds, wp, word)
     } else {
         word
     };
+    if pass >= READ_ONLY {
+        before.read_only = read_only(seeds, &before, memory);
+    }
     let pins = Pins(record(seeds, 4));
 
     let mut machine = Machine::new(memory, before);
@@ -78,7 +87,7 @@ pub fn expect() -> String {
         let mut sum = Sum::default();
         let mut unassigned = 0;
         for i in 0..WORDS {
-            if one(&mut memory, &mut seeds, first + i, line / PASS == 4, &mut sum) {
+            if one(&mut memory, &mut seeds, first + i, line / PASS, &mut sum) {
                 unassigned += 1;
             }
         }
