@@ -3,6 +3,7 @@ ghost use Prim.Native.Nat.{_<_};
 
 pub mod lines;
 pub mod records;
+pub mod roms;
 pub mod spoiled;
 pub mod states;
 

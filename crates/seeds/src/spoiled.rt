@@ -4,8 +4,13 @@ use super::states::CLOCK_NUMBERS;
 use machine::State;
 use psi::Psi;
 
-// How many ways there are to spoil a state.
-pub const WAYS: u16 = 10;
+// How many ways there are to spoil a state: those that leave the read-only address, with those that leave every number fit for an image's
+// word, and all.
+pub const ROM_LEFT: u16 = 10;
+
+pub const WORD_WAYS: u16 = 12;
+
+pub const WAYS: u16 = 13;
 
 // A PSI that is not well formed, in one of seven ways.
 fn spoiled_psi(seed: &mut u32, psi: Psi, way: u16) -> Psi {
@@ -30,9 +35,25 @@ fn spoiled_psi(seed: &mut u32, psi: Psi, way: u16) -> Psi {
     p
 }
 
-// A state that is not well formed, in one of ten ways.
+// A read-only address that no state has: an odd one, one that is too large, or one that is too large with a low half that would do.
+fn spoiled_rom(seed: &mut u32, way: u16) -> u32 {
+    match way {
+        ROM_LEFT => (2 * below(seed, 8192) + 1) as u32,
+        11 => (16385 + below(seed, 49151)) as u32,
+        _ => {
+            let high = 1 + below(seed, 65535) as u32;
+            65536 * high + (2 * below(seed, 8193)) as u32
+        }
+    }
+}
+
+// A state that is not well formed, in one of the ways.
 pub fn spoiled(seed: &mut u32, state: State, way: u16) -> State {
     let mut s = state;
+    if ROM_LEFT <= way {
+        s.rom = spoiled_rom(seed, way);
+        return s;
+    }
     match way {
         0 => s.wp = s.wp / 2 * 2 + 1,
         1 => s.pc = s.pc / 2 * 2 + 1,

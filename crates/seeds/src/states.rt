@@ -83,7 +83,7 @@ pub fn psi(seed: &mut u32) -> Psi {
     }
 }
 
-// A state with these flags, well formed but for them; some have PC in the workspace.
+// A state with these flags, well formed but for them, with nothing read-only; some have PC in the workspace.
 pub fn state(seed: &mut u32, flags: u16) -> State {
     let wp = address(seed);
     let near = std::num::wrapping_add_u16(wp, below(seed, 32) * 2);
@@ -100,6 +100,7 @@ pub fn state(seed: &mut u32, flags: u16) -> State {
         st,
         flags,
         psi,
+        rom: State::NO_ROM,
     }
 }
 
@@ -116,7 +117,7 @@ pub fn mix_state(sum: u32, state: State) -> u32 {
     let psi = state.psi;
     let first = mix(mix(sum, state.wp as u32), state.pc as u32);
     let second = mix(mix(first, state.st as u32), state.flags as u32);
-    mix_psi(second, psi)
+    mix(mix_psi(second, psi), state.rom)
 }
 
 // The sum with a step's answer more, as its two numbers.

@@ -1,5 +1,5 @@
 // Runs of generated programs and of any bytes, with pin records and stop addresses, each also in single steps on a copy of the memory; and
-// refused calls; sums of the answer of every step and of what came of them. Then single steps in clock mode.
+// refused calls; sums of the answer of every step and of what came of them. Then single steps in clock mode, and with a read-only part.
 ghost use mathlib.Core.Path.{_≡_};
 ghost use Prim.Native.Nat.{_<_, _≤_};
 ghost use lib.ListN.{length};
@@ -14,6 +14,7 @@ use seeds::states;
 
 mod clock_mode;
 mod programs;
+mod read_only;
 
 // Lines of the output, memories of a line, calls on a memory.
 const LINES: u32 = 128;
@@ -100,13 +101,20 @@ fn run_short(
     run::run(&mut bytes[0..size], state, records, steps, 1)
 }
 
-// A run that is refused, for one reason or for two.
-fn run_refused(bytes: &mut [u8], seed: &mut u32, state: State, records: &[u32]) -> RunAnswer
+// A run that is refused, for one reason or for two. A state is spoiled in one of the first `ways`.
+fn run_refused(
+    bytes: &mut [u8],
+    seed: &mut u32,
+    state: State,
+    records: &[u32],
+    ways: u16,
+) -> RunAnswer
     requires { ⌜ Installed (now bytes) ⌝ }
     requires { ⌜ length (now records) ≤ 1024 ⌝ }
+    requires { ⌜ 0 < ways ⌝ }
 {
     let many = records.len() + 1 + below(seed, 3) as usize;
-    let way = below(seed, spoiled::WAYS);
+    let way = below(seed, ways);
     let bad = spoiled::spoiled(seed, state, way);
     match below(seed, 5) {
         0 => run_short(bytes, seed, state, records, 1),
@@ -169,17 +177,20 @@ fn low(count: usize) -> u32 {
     (count % 65536) as u32
 }
 
+// The sum with all that a run answers.
+fn mix_run(sum: u32, answer: RunAnswer) -> u32 {
+    let state = answer.state;
+    let counts = seeds::mix(seeds::mix(sum, answer.number as u32), low(answer.steps));
+    let counted = seeds::mix(counts, low(answer.unassigned));
+    let last = answer.last;
+    states::mix_state(states::mix_answer(counted, last), state)
+}
+
 // The course with one answer more.
 fn followed(course: Course, answer: RunAnswer) -> Course {
     let mut next = course;
     let state = answer.state;
-    let counts = seeds::mix(
-        seeds::mix(course.sum, answer.number as u32),
-        low(answer.steps),
-    );
-    let counted = seeds::mix(counts, low(answer.unassigned));
-    let last = answer.last;
-    next.sum = states::mix_state(states::mix_answer(counted, last), state);
+    next.sum = mix_run(course.sum, answer);
     next.steps = std::num::wrapping_add_u64(course.steps, answer.steps as u64);
     next.unassigned = std::num::wrapping_add_u64(course.unassigned, answer.unassigned as u64);
     if answer.number == 0 {
@@ -202,7 +213,10 @@ fn call(
 {
     let state = course.state;
     if seeds::once_in(seed, 8) {
-        return followed(course, run_refused(bytes, seed, state, records));
+        return followed(
+            course,
+            run_refused(bytes, seed, state, records, spoiled::ROM_LEFT),
+        );
     }
     let plan = next_plan(seed, state.pc);
     bytes::copy(bytes, copy);
@@ -336,4 +350,5 @@ fn main() {
         n += 1;
     }
     clock_mode::section(&mut bytes, &mut seed, &mut records);
+    read_only::section(&mut bytes, &mut copy, &mut seed, &mut records);
 }

@@ -56,13 +56,34 @@ fn instruction(seed: &mut u32) -> u16 {
 // The theme that reads the clock.
 pub const CLOCK: u16 = 4;
 
-// A word of the program's theme: X, the CRU, STCR of 14 bits, or any.
+// The theme of entries and stores.
+pub const STORES: u16 = 5;
+
+// An operation on two operands, of which the second is in memory: *Rn, an address, or *Rn+.
+fn memory_store(seed: &mut u32) -> u16 {
+    let operation = below(seed, 12) * 4096;
+    let mode = below(seed, 3) * 1024;
+    0x4400 + operation + mode + below(seed, 1024)
+}
+
+// BLWP, XOP, RTWP, or an operation on two operands.
+fn entry_or_store(seed: &mut u32) -> u16 {
+    match below(seed, 8) {
+        0 => 0x0400 + below(seed, 64),
+        1 | 2 => 0x2C00 + below(seed, 1024),
+        3 => 0x0380,
+        _ => memory_store(seed),
+    }
+}
+
+// A word of the program's theme: X, the CRU, STCR of 14 bits, entries and stores, or any.
 fn favoured(seed: &mut u32, theme: u16) -> u16 {
     match theme {
         1 => 0x0480 + below(seed, 64),
         2 => 0x3000 + below(seed, 2048),
         3 => 0x1D00 + below(seed, 3) * 256 + below(seed, 40),
         CLOCK => 0x3780 + below(seed, 64),
+        STORES => entry_or_store(seed),
         _ => states::address(seed),
     }
 }

@@ -1,11 +1,12 @@
-// Every word executed five times, from different states and memories, once of them through X; sums of what is told of every word and of
-// what came of it.
+// Every word executed seven times, from different states and memories, two of them through X, and the last two with a read-only part; sums
+// of what is told of every word and of what came of it.
 ghost use Prim.Native.Nat.{_<_, _≤_};
 ghost use Rattle.memory.specs.Memory.{Installed};
 use machine::State;
 use memory::Width;
 use seeds::lines;
 use seeds::records;
+use seeds::roms;
 use seeds::states;
 
 // Words that share a line of the output, lines of a pass over all words, and lines in all.
@@ -13,7 +14,14 @@ const WORDS: u16 = 2048;
 
 const PASS: u16 = 32;
 
-const LINES: u16 = 160;
+const LINES: u16 = 224;
+
+// The passes through X, and the first with a read-only part.
+const THROUGH: u16 = 4;
+
+const THROUGH_AGAIN: u16 = 6;
+
+const READ_ONLY: u16 = 5;
 
 // The sum so far, and how many unassigned words there were.
 struct Tally {
@@ -93,7 +101,7 @@ fn mix_registers(sum: u32, bytes: &[u8], wp: u16) -> u32
 }
 
 // Fills the workspace and what may be further words, and gives the word to be executed: `word` itself, or X that leads to it.
-fn prepared(bytes: &mut [u8], seed: &mut u32, state: State, word: u16, through: bool) -> u16
+fn prepared(bytes: &mut [u8], seed: &mut u32, state: State, word: u16, pass: u16) -> u16
     requires { ⌜ Installed (now bytes) ⌝ }
 {
     let wp = state.wp;
@@ -106,20 +114,28 @@ fn prepared(bytes: &mut [u8], seed: &mut u32, state: State, word: u16, through: 
         std::num::wrapping_add_u16(pc, 2),
         states::value(seed, pc),
     );
-    if !through {
-        return word;
+    if pass == THROUGH || pass == THROUGH_AGAIN {
+        return chained(bytes, seed, wp, word);
     }
-    chained(bytes, seed, wp, word)
+    word
 }
 
-// Executes a word from a new state, by itself or through X.
-fn one(bytes: &mut [u8], seed: &mut u32, word: u16, through: bool, tally: Tally) -> Tally
+// The read-only address of a pass: none, or one that suits the state.
+fn first_read_only(bytes: &[u8], seed: &mut u32, state: State, pass: u16) -> u32
     requires { ⌜ Installed (now bytes) ⌝ }
 {
-    let state = states::state(seed, 0);
-    let first = prepared(bytes, seed, state, word, through);
+    if pass < READ_ONLY {
+        return State::NO_ROM;
+    }
+    roms::suited(bytes, seed, state)
+}
+
+// Executes a word from a state.
+fn executed(bytes: &mut [u8], seed: &mut u32, state: State, word: u16, tally: Tally) -> Tally
+    requires { ⌜ Installed (now bytes) ⌝ }
+{
     let record = psi::split(records::record(seed, 4));
-    let executed = cpu::perform(bytes, state, record.levels, first, cpu::ALLOWANCE);
+    let executed = cpu::perform(bytes, state, record.levels, word, cpu::ALLOWANCE);
     let deed = executed.deed;
     let after = executed.state;
     let answer = step_answers::told_word(state.pc, deed);
@@ -133,8 +149,19 @@ fn one(bytes: &mut [u8], seed: &mut u32, word: u16, through: bool, tally: Tally)
     }
 }
 
+// A word and a new state, as the pass has them. All words are put in place before any part of the memory is read-only.
+fn one(bytes: &mut [u8], seed: &mut u32, word: u16, pass: u16, tally: Tally) -> Tally
+    requires { ⌜ Installed (now bytes) ⌝ }
+{
+    let mut state = states::state(seed, 0);
+    let first = prepared(bytes, seed, state, word, pass);
+    let rom = first_read_only(bytes, seed, state, pass);
+    state.rom = rom;
+    executed(bytes, seed, state, first, tally)
+}
+
 // The words of a line.
-fn words(bytes: &mut [u8], seed: &mut u32, first: u16, through: bool) -> Tally
+fn words(bytes: &mut [u8], seed: &mut u32, first: u16, pass: u16) -> Tally
     requires { ⌜ Installed (now bytes) ⌝ }
     requires { ⌜ first ≤ 63488 ⌝ }
 {
@@ -144,7 +171,7 @@ fn words(bytes: &mut [u8], seed: &mut u32, first: u16, through: bool) -> Tally
     };
     let mut i: u16 = 0;
     while i < WORDS {
-        tally = one(bytes, seed, first + i, through, tally);
+        tally = one(bytes, seed, first + i, pass, tally);
         i += 1;
     }
     tally
@@ -153,11 +180,11 @@ fn words(bytes: &mut [u8], seed: &mut u32, first: u16, through: bool) -> Tally
 // A line: new memory, its words, and the sums.
 fn line(bytes: &mut [u8], seed: &mut u32, n: u16)
     requires { ⌜ Installed (now bytes) ⌝ }
-    requires { ⌜ n < 160 ⌝ }
+    requires { ⌜ n < 224 ⌝ }
 {
     seeds::fill(bytes, seed);
     let first = n % PASS * WORDS;
-    let tally = words(bytes, seed, first, n / PASS == 4);
+    let tally = words(bytes, seed, first, n / PASS);
     lines::number(first as u64);
     lines::number(tally.unassigned);
     lines::sum(tally.sum);

@@ -7,10 +7,10 @@ use Rattle.test_steps.proofs.words.Statement.{statement}
 use Rattle.test_steps.proofs.words.Tie as tie
 
 abbrev Inv-loop : tie.InvT-loop
-Inv-loop bytes₀ seed₀ first through tally₀ i₀ bytes seed tally i = (length bytes ≡ length bytes₀) × (i ≤ 2048)
+Inv-loop bytes₀ seed₀ first pass tally₀ i₀ bytes seed tally i = (length bytes ≡ length bytes₀) × (i ≤ 2048)
 
 abbrev μ-loop : tie.MeasureT-loop
-μ-loop bytes₀ seed₀ first through tally₀ i₀ bytes seed tally i = 2048 - i
+μ-loop bytes₀ seed₀ first pass tally₀ i₀ bytes seed tally i = 2048 - i
 
 pub words-spec : {M : Type 1} → statement M
 words-spec =
