@@ -122,9 +122,15 @@ fn differ(bytes: &[u8], others: &[u8]) -> bool
     false
 }
 
-// Whether two states differ in WP, PC or ST.
-fn apart(one: State, other: State) -> bool {
-    one.wp != other.wp || one.pc != other.pc || one.st != other.st
+// Whether two machines differ in memory, WP, PC or ST.
+fn apart(bytes: &[u8], others: &[u8], one: State, other: State) -> bool
+    requires { ⌜ Installed (now bytes) ⌝ }
+    requires { ⌜ Installed (now others) ⌝ }
+{
+    if one.wp != other.wp || one.pc != other.pc || one.st != other.st {
+        return true;
+    }
+    differ(bytes, others)
 }
 
 // The tally with a case's steps more: without the part on the copy, then with it.
@@ -146,7 +152,7 @@ fn compared(
     let with = steps(bytes, state, records, from, free.sum);
     let one = free.state;
     let other = with.state;
-    let mattered = apart(one, other) || differ(bytes, copy);
+    let mattered = apart(bytes, copy, one, other);
     Tally {
         sum: with.sum,
         other: std::num::wrapping_add_u64(tally.other, mattered as u64),

@@ -1,4 +1,4 @@
--- A turn for each of the 128 lines, which leaves the lengths of memory, copy and records, as the lines after the loop take them.
+-- A turn for each of the 128 lines, which leaves the lengths of memory, copy and records, as the sections after the loop take them.
 use lib.ListN.{length}
 use Prim.Native.Nat.{_≤_, _-_}
 use mathlib.Core.Path.{_≡_}
@@ -26,6 +26,10 @@ main-spec =
     (λ c κs. search needs)
     (λ c. search needs)
     (λ c. search needs)
+    (λ c. search needs)
+    (λ c. search needs)
+    (λ c. search needs)
+    (λ c κs. search needs)
     (λ c. search needs)
     (λ c. search needs)
     (λ c. search needs)
