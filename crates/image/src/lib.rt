@@ -52,10 +52,18 @@ fn filler_clear(image: &[u8]) -> bool
     requires { ⌜ length (now image) ≡ Image.image-size ⌝ }
     ensures { λ r. ⌜ r ≡ Image.zeros (Image.filler-of (now (image .entry))) ⌝ }
 {
-    if !image_blocks::zeros(&image[image_blocks::REST..image_blocks::CHECK]) {
+    let rest = image_blocks::rest(image);
+    if !image_blocks::zeros(&image[rest..image_blocks::CHECK]) {
         return false;
     }
     image_blocks::zeros(&image[image_blocks::TAIL..image_blocks::TAIL_END])
+}
+
+// Whether this edition is read: 1 or 2.
+fn known_edition(edition: u16) -> bool
+    ensures { λ r. ⌜ r ≡ Calls.known-edition edition ⌝ }
+{
+    edition == image_blocks::FIRST_EDITION || edition == image_blocks::EDITION
 }
 
 // The refusal that block 0's content or the filler calls for, or 0.
@@ -66,7 +74,7 @@ fn content_fault(image: &[u8]) -> u16
     if image_blocks::field(image, 0) != image_blocks::FORMAT {
         return 8;
     }
-    if image_blocks::field(image, 1) != image_blocks::EDITION {
+    if !known_edition(image_blocks::field(image, 1)) {
         return 8;
     }
     let state = image_blocks::state_of(image);

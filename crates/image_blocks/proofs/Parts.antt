@@ -1,14 +1,15 @@
 -- Where the bytes of an image's parts lie in it, and where the memory's bytes lie in its blocks.
 use Prim.Native.Nat.{ℕ, zero, suc, min, _+_, _-_, _*_, _<_, _≤_}
 use mathlib.Core.Path.{_≡_, refl, sym, ap, ap₂, _∙_}
-use mathlib.Core.Bool.{_&&_, and-assoc}
+use mathlib.Core.Bool.{Bool, true, false, _&&_, and-assoc}
 use mathlib.Core.List.{List, [], _∷_, _++_, append-nil}
 use native.Mathlib.Omega.{arith}
 use native.Mathlib.Nat.{add-zero}
 use lib.ListN.{length, getD, take, drop, replicate, length-take, length-drop, drop-of-length-le}
 use lib.Seq.{length-take-le, take-take, drop-drop, getD-take, getD-drop, sets-eq, drop-append-add}
 use lib.Dec.{eqb}
-use Rattle.image_blocks.specs.Image.{image-size, block-of, content-of, contents-of, memory-of, field-of, filler-of, zeros, word-at, word-bytes, padded}
+use Rattle.bits.specs.Bits.{if_then_else_}
+use Rattle.image_blocks.specs.Image.{image-size, block-of, content-of, contents-of, memory-of, rom-field, field-count, field-of, is-first, fields-in, filler-of, zeros, word-at, word-bytes, padded}
 use Rattle.image_blocks.specs.Blocks.{put-word}
 use Rattle.memory.proofs.Zeros.{drop-replicate}
 use Rattle.image_blocks.proofs.Lists.{drop-take, take-there, joined, joined-part, joined-length, joined-last}
@@ -96,11 +97,24 @@ memory-part img i k h l b f =
     ∙ ap (take k) (contents-part img i h l ∙ content-lies img (i + 1))
     ∙ take-take k 508 (drop (512 * (i + 1) + 2) img) b
 
-pub filler-lies : (img : List ℕ) → length img ≡ image-size → filler-of img ≡ take 480 (drop 30 img) ++ take 380 (drop 17026 img)
+-- either edition's fields leave room in block 0
+pub fields-most : (img : List ℕ) → fields-in img ≤ field-count
+unfolding fields-in
+fields-most img = by-edition (is-first img)
+  where
+    by-edition : (b : Bool) → (if b then rom-field else field-count) ≤ field-count
+    by-edition true = omega arith
+    by-edition false = omega arith
+
+pub filler-lies :
+    (img : List ℕ) → length img ≡ image-size
+    → filler-of img ≡ take (508 - 2 * fields-in img) (drop (2 + 2 * fields-in img) img) ++ take 380 (drop 17026 img)
 unfolding filler-of
 filler-lies img h =
     ap₂ _++_
-    (ap (drop 28) (content-lies img 0) ∙ drop-take 28 508 (drop 2 img) ∙ ap (take 480) (drop-drop 28 2 img))
+    (ap (drop (2 * fields-in img)) (content-lies img 0)
+    ∙ drop-take (2 * fields-in img) 508 (drop 2 img)
+    ∙ ap (take (508 - 2 * fields-in img)) (drop-drop (2 * fields-in img) 2 img))
     (ap (drop 16384) (contents-joined img 33 1 ∙ joined-last (content-of img) 32 1)
     ∙ ap (λ (n : ℕ). drop n (joined (content-of img) 32 1 ++ content-of img 33)) (ap (λ (n : ℕ). n + 128) (sym (joined-length 508 (content-of img) 32 1 (λ p m. content-of-length img p h (omega arith)))))
     ∙ drop-append-add (joined (content-of img) 32 1) (content-of img 33) 128

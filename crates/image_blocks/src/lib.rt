@@ -28,19 +28,23 @@ pub const IMAGE_SIZE: usize = BLOCKS * BLOCK_SIZE;
 // Block 0's content begins with these two words.
 pub const FORMAT: u16 = 0x9901;
 
-pub const EDITION: u16 = 1;
+// The edition that is written, and the one before it, which has no read-only address.
+pub const EDITION: u16 = 2;
 
-// The fields of block 0, a word each: format, edition, WP, PC, ST and flags, and from `PSI_FIELD` on the PSI's.
+pub const FIRST_EDITION: u16 = 1;
+
+// The fields of block 0, a word each: format, edition, WP, PC, ST and flags, from `PSI_FIELD` on the PSI's, and in edition 2 the read-only
+// address.
 pub const PSI_FIELD: usize = 6;
 
-pub const FIELDS: usize = PSI_FIELD + Psi::WORDS;
+pub const ROM_FIELD: usize = PSI_FIELD + Psi::WORDS;
+
+pub const FIELDS: usize = ROM_FIELD + 1;
 
 // Where the part of memory that the last block carries begins.
 pub const LAST_PAGE: usize = CONTENT_SIZE * (LAST - 1);
 
-// The filler: in block 0 after the fields, and in the last block after the memory's last byte.
-pub const REST: usize = CONTENT + 2 * FIELDS;
-
+// The filler in the last block, after the memory's last byte.
 pub const TAIL: usize = BLOCK_SIZE * LAST + CONTENT + (memory::SIZE - LAST_PAGE);
 
 pub const TAIL_END: usize = BLOCK_SIZE * LAST + CHECK;
@@ -138,6 +142,7 @@ fn header(state: State) -> [u8; BLOCK_SIZE]
     put_field(&mut block, PSI_FIELD + 5, psi.reading);
     put_field(&mut block, PSI_FIELD + 6, psi.phase);
     put_field(&mut block, PSI_FIELD + 7, psi.pending);
+    put_field(&mut block, ROM_FIELD, (state.rom % 65536) as u16);
     block
 }
 
@@ -230,6 +235,38 @@ fn psi_of(image: &[u8]) -> Psi
     psi
 }
 
+// Whether the image is of edition 1.
+fn is_first(image: &[u8]) -> bool
+    requires { ⌜ length (now image) ≡ Image.image-size ⌝ }
+    ensures { λ r. ⌜ r ≡ Image.is-first (now (image .entry)) ⌝ }
+{
+    field(image, 1) == FIRST_EDITION
+}
+
+// The first read-only address: edition 1 has none.
+fn rom_of(image: &[u8]) -> u32
+    requires { ⌜ length (now image) ≡ Image.image-size ⌝ }
+    ensures { λ r. ⌜ r ≡ Image.rom-of (now (image .entry)) ⌝ }
+{
+    if is_first(image) {
+        State::NO_ROM
+    } else {
+        field(image, ROM_FIELD) as u32
+    }
+}
+
+// Where the filler in block 0 begins: after the fields that its edition has.
+pub fn rest(image: &[u8]) -> usize
+    requires { ⌜ length (now image) ≡ Image.image-size ⌝ }
+    ensures { λ r. ⌜ r ≡ 2 * Image.fields-in (now (image .entry)) + 2 ⌝ }
+{
+    if is_first(image) {
+        2 * ROM_FIELD + CONTENT
+    } else {
+        2 * FIELDS + CONTENT
+    }
+}
+
 // The state that block 0 holds.
 pub fn state_of(image: &[u8]) -> State
     requires { ⌜ length (now image) ≡ Image.image-size ⌝ }
@@ -242,5 +279,6 @@ pub fn state_of(image: &[u8]) -> State
         st: field(image, 4),
         flags: field(image, 5),
         psi,
+        rom: rom_of(image),
     }
 }

@@ -13,7 +13,7 @@ use Rattle.machine.specs.State.{well-formed}
 use Rattle.image_blocks.specs.Image as Image
 use Rattle.image.specs.declared.Fault.{Fault}
 use Rattle.image_blocks.specs.Image.{block-fault}
-use Rattle.image.specs.Calls.{first-fault, content-fault}
+use Rattle.image.specs.Calls.{first-fault, known-edition, content-fault}
 use Rattle.image.proofs.Accepted.{passed}
 use Rattle.image_claims.specs.Claims.{Sound-block}
 
@@ -44,26 +44,24 @@ right img i h =
     let two = passed (λ n. n) (eqb number i) 7 0 (λ e. absurd (omega arith)) (one .1) in
     record { sum = eqb-true sum 65535 (one .0); number = eqb-true number i (two .0) }
 
--- block 0's content in order
+-- block 0's content in order, in either edition
 pub record Sound (img : List ℕ) : Type 0 where
   pub format : Image.field-of img 0 ≡ Image.format
-  pub edition : Image.field-of img 1 ≡ Image.edition
   pub formed : well-formed (Image.state-of img) ≡ true
   pub filler : Image.zeros (Image.filler-of img) ≡ true
 
 pub sound : (img : List ℕ) → content-fault img ≡ 0 → Sound img
 unfolding content-fault
 sound img h =
-    let first : Bool = eqb (Image.field-of img 0) Image.format && eqb (Image.field-of img 1) Image.edition in
+    let first : Bool = eqb (Image.field-of img 0) Image.format && known-edition (Image.field-of img 1) in
     let second : Bool = well-formed (Image.state-of img) && Image.zeros (Image.filler-of img) in
     let last : ℕ = if not second then 9 else 0 in
     let one = passed (λ n. n) first 8 last (λ e. absurd (omega arith)) h in
     let two = passed (λ n. n) second 9 0 (λ e. absurd (omega arith)) (one .1) in
-    let words = conjuncts (eqb (Image.field-of img 0) Image.format) (eqb (Image.field-of img 1) Image.edition) (one .0) in
+    let words = conjuncts (eqb (Image.field-of img 0) Image.format) (known-edition (Image.field-of img 1)) (one .0) in
     let rest = conjuncts (well-formed (Image.state-of img)) (Image.zeros (Image.filler-of img)) (two .0) in
     record {
       format = eqb-true (Image.field-of img 0) Image.format (words .0);
-      edition = eqb-true (Image.field-of img 1) Image.edition (words .1);
       formed = rest .0;
       filler = rest .1;
     }

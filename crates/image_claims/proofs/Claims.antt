@@ -1,24 +1,25 @@
--- The claims: what is written is read back, what is read is written back, a read's number is the table's, and its block the lowest bad one.
+-- The claims: what is written is read back, what is read is written back, of edition 1 with block 0 made anew, a read's number is the table's,
+-- and its block the lowest bad one.
 use Prim.Native.Nat.{ℕ, _<_}
 use native.Mathlib.Omega.{arith}
 use mathlib.Core.Path.{_≡_, refl, sym, _∙_}
 use mathlib.Core.Bool.{Bool, true, false}
-use mathlib.Core.List.{List}
+use mathlib.Core.List.{List, _++_}
 use native.Mathlib.Nat.{zero-add}
 use borrow.Author.Tests.{eq-eqb, ne-eqb, eqb-true}
-use lib.ListN.{length}
+use lib.ListN.{length, drop, take-append-drop}
 use lib.Dec.{eqb}
-use Rattle.memory.specs.Memory.{size}
+use Rattle.memory.specs.Memory.{size, Bytes}
 use Rattle.machine.specs.declared.State.{State}
 use Rattle.machine.specs.State.{well-formed}
 use Rattle.image_blocks.specs.Image as Image
 use Rattle.image.specs.Calls.{read, read-fault, first-fault, write, write-fault}
-use Rattle.image_claims.specs.Claims.{Reads-what-was-written, Writes-what-was-read, Accepted-exactly, Sound-block, Names-the-lowest}
+use Rattle.image_claims.specs.Claims.{Reads-what-was-written, renewed, Writes, Writes-what-was-read, Renews-the-first-edition, Accepted-exactly, Sound-block, Names-the-lowest}
 use Rattle.image_blocks.proofs.Parts.{memory-length}
 use Rattle.image_claims.proofs.Written.{read-written}
 use Rattle.image.proofs.Accepted.{Accepted, accepted}
 use Rattle.image_claims.proofs.Accepted.{right, each-right, Sound, sound}
-use Rattle.image_claims.proofs.Read.{image-back}
+use Rattle.image_claims.proofs.Read.{second-back, first-back, image-back}
 use Rattle.image_claims.proofs.Lowest.{Low, low, judged, wrong-check, right-check, wrong-number}
 
 -- a well-formed state, a memory and a buffer of the right sizes are written
@@ -46,17 +47,42 @@ reads :
 unfolding read
 reads img m h = rw (eq-eqb (read-fault img m .number) 0 h)
 
+-- what was read of an accepted image is written as the image, with block 0 made anew
+module _ (img m : List ℕ) (bytes : Bytes img) (zero-read : read img m .answer .number ≡ 0) where
+  none : read-fault img m .number ≡ 0
+  none = sym (accepted-exactly img m) ∙ zero-read
+
+  known : Accepted img m
+  known = accepted img m none
+
+  in-order : Sound img
+  in-order = sound img (known .content-right)
+
+  each : (i : ℕ) → i < 34 → Sound-block img i
+  each i l = right img i (rw (zero-add i) at (each-right img 34 0 i (known .blocks-right) l))
+
+  rewritten : (first : List ℕ) → Image.block (Image.state-of img) (Image.memory-of img) 0 ≡ first → Writes img m (first ++ drop 512 img)
+  rewritten first e buffer b =
+      rw (
+        reads img m none,
+        writes (Image.state-of img) (Image.memory-of img) buffer (in-order .formed) (memory-length img (known .image-sized)) b,
+        image-back img (known .image-sized) bytes in-order each,
+        e,
+      )
+
 pub writes-what-was-read : Writes-what-was-read
-writes-what-was-read img m buffer bytes zero-read b =
-    let none : read-fault img m .number ≡ 0 = sym (accepted-exactly img m) ∙ zero-read in
-    let a : Accepted img m = accepted img m none in
-    let k : Sound img = sound img (a .content-right) in
-    let each : (i : ℕ) → i < 34 → Sound-block img i = λ i l. right img i (rw (zero-add i) at (each-right img 34 0 i (a .blocks-right) l)) in
-    rw (
-      reads img m none,
-      writes (Image.state-of img) (Image.memory-of img) buffer (k .formed) (memory-length img (a .image-sized)) b,
-      image-back img (a .image-sized) bytes k each,
-    )
+unfolding Image.block-of
+writes-what-was-read img m bytes z e =
+    let k = known img m bytes z in
+    rw (take-append-drop 512 img) at
+    (rewritten img m bytes z (Image.block-of img 0)
+    (second-back img (k .image-sized) bytes (Image.memory-of img) (in-order img m bytes z) (each img m bytes z 0 (omega arith)) e))
+
+pub renews-the-first-edition : Renews-the-first-edition
+unfolding renewed
+renews-the-first-edition img m bytes z e =
+    rewritten img m bytes z _
+    (first-back img (known img m bytes z .image-sized) bytes (Image.memory-of img) (in-order img m bytes z) (each img m bytes z 0 (omega arith)) e)
 
 -- a refused read hands on the number and the block that were found
 refused : (img m : List ℕ) → 0 < read-fault img m .number → read img m .answer .block ≡ read-fault img m .block

@@ -15,7 +15,7 @@ use Rattle.machine.specs.State.{well-formed}
 use Rattle.image_blocks.specs.Image as Image
 use Rattle.image.specs.declared.Fault.{Fault}
 use Rattle.image_blocks.specs.Image.{block-fault}
-use Rattle.image.specs.Calls.{fault, first-fault, content-fault, read-fault}
+use Rattle.image.specs.Calls.{fault, first-fault, known-edition, content-fault, read-fault}
 
 -- a fault found among k blocks from number i on
 pub record Low (img : List ℕ) (k i : ℕ) (f : Fault) : Type 0 where
@@ -47,7 +47,7 @@ content-judged : (img : List ℕ) → 5 < content-fault img → content-fault im
 unfolding content-fault
 content-judged img =
     by-tests
-    (eqb (Image.field-of img 0) Image.format && eqb (Image.field-of img 1) Image.edition)
+    (eqb (Image.field-of img 0) Image.format && known-edition (Image.field-of img 1))
     (well-formed (Image.state-of img) && Image.zeros (Image.filler-of img))
   where
     by-tests : (a b : Bool) → 5 < (if not a then 8 else if not b then 9 else 0) → (if not a then 8 else if not b then 9 else 0) < 8 → ⊥

@@ -1,7 +1,7 @@
 -- What is written: each block of the image, and what it holds, is found again in it.
 use Prim.Native.Nat.{ℕ, zero, suc, _+_, _-_, _*_, _%_, _<_}
 use mathlib.Core.Path.{_≡_, refl, sym, ap, _∙_}
-use mathlib.Core.Bool.{true}
+use mathlib.Core.Bool.{true, false}
 use mathlib.Core.List.{List, _∷_, _++_}
 use native.Mathlib.Omega.{arith}
 use native.Mathlib.Numerals.{add-one}
@@ -13,7 +13,8 @@ use Rattle.memory.specs.Memory.{size}
 use Rattle.machine.specs.declared.State.{State}
 use Rattle.machine.specs.State.{well-formed}
 use Rattle.machine.specs.Laws.{Words}
-use Rattle.image_blocks.specs.Image.{image-size, format, edition, content, words-bytes, fields, word-bytes, word-at, padded, checked, words-sum, zeros, block, image, block-of, content-of, contents-of, memory-of, field-of, psi-of, state-of, filler-of}
+use Rattle.machine.proofs.Laws.{form}
+use Rattle.image_blocks.specs.Image.{image-size, format, edition, content, words-bytes, fields, word-bytes, word-at, padded, checked, words-sum, zeros, block, image, block-of, content-of, contents-of, memory-of, field-of, is-first, psi-of, rom-of, state-of, fields-in, filler-of}
 use Rattle.image_blocks.specs.Image.{block-fault}
 use Rattle.image.specs.Calls.{fault, first-fault, content-fault, read-fault, read}
 use Rattle.image_blocks.proofs.Lists.{length-padded}
@@ -68,7 +69,7 @@ unfolding memory-of padded
 memory-found s m h = rw (contents-found s m h) (take-at m (replicate (16764 - length m) 0) 16384 h)
 
 -- field n of block 0
-field-found : (s : State) (m : List ℕ) (n : ℕ) → n < 14 → field-of (image s m) n ≡ getD (format ∷ edition ∷ fields s) n 0 % 65536
+field-found : (s : State) (m : List ℕ) (n : ℕ) → n < 15 → field-of (image s m) n ≡ getD (format ∷ edition ∷ fields s) n 0 % 65536
 unfolding field-of content padded fields
 field-found s m n h =
     rw (content-found s m 0 (omega arith))
@@ -79,16 +80,23 @@ unfolding zeros
 zeros-replicate zero = refl
 zeros-replicate (suc n) = zeros-replicate n
 
-filler-found : (s : State) (m : List ℕ) → length m ≡ size → zeros (filler-of (image s m)) ≡ true
-unfolding filler-of content padded words-bytes fields zeros
-filler-found s m h =
-    rw (content-found s m 0 (omega arith), contents-found s m h, drop-at m (replicate (16764 - length m) 0) 16384 h)
-    (zeros-append (replicate 480 0) (replicate (16764 - length m) 0) ∙ zeros-replicate (16764 - length m))
+-- it is of edition 2
+edition-found : (s : State) (m : List ℕ) → is-first (image s m) ≡ false
+unfolding is-first fields
+edition-found s m = rw (field-found s m 1 (omega arith))
 
-state-found : (s : State) (m : List ℕ) → Words s → state-of (image s m) ≡ s
-unfolding state-of psi-of fields
-state-found s m w =
+filler-found : (s : State) (m : List ℕ) → length m ≡ size → zeros (filler-of (image s m)) ≡ true
+unfolding filler-of fields-in content padded words-bytes fields zeros
+filler-found s m h =
+    rw (edition-found s m, content-found s m 0 (omega arith), contents-found s m h, drop-at m (replicate (16764 - length m) 0) 16384 h)
+    (zeros-append (replicate 478 0) (replicate (16764 - length m) 0) ∙ zeros-replicate (16764 - length m))
+
+-- a well-formed state's read-only address fits its word
+state-found : (s : State) (m : List ℕ) → Words s → well-formed s ≡ true → state-of (image s m) ≡ s
+unfolding state-of psi-of rom-of fields
+state-found s m w f =
     rw (
+      edition-found s m,
       field-found s m 2 (omega arith),
       field-found s m 3 (omega arith),
       field-found s m 4 (omega arith),
@@ -101,6 +109,7 @@ state-found s m w =
       field-found s m 11 (omega arith),
       field-found s m 12 (omega arith),
       field-found s m 13 (omega arith),
+      field-found s m 14 (omega arith),
       mod-eq-of-lt (w .wp),
       mod-eq-of-lt (w .pc),
       mod-eq-of-lt (w .st),
@@ -113,6 +122,7 @@ state-found s m w =
       mod-eq-of-lt (w .psi .reading),
       mod-eq-of-lt (w .psi .phase),
       mod-eq-of-lt (w .psi .pending),
+      mod-eq-of-lt (let e : s .rom < 65536 = omega (arith, form s f .first .bound) in e),
     )
 
 -- The image is accepted, and gives back the state and the memory.
@@ -127,7 +137,7 @@ blocks-right img (suc k) i h =
 content-right : (s : State) (m : List ℕ) → Words s → well-formed s ≡ true → length m ≡ size → content-fault (image s m) ≡ 0
 unfolding content-fault fields
 content-right s m w f h =
-    rw (field-found s m 0 (omega arith), field-found s m 1 (omega arith), state-found s m w, f, filler-found s m h)
+    rw (field-found s m 0 (omega arith), field-found s m 1 (omega arith), state-found s m w f, f, filler-found s m h)
 
 nothing-found :
     (s : State) (m other : List ℕ) → Words s → well-formed s ≡ true → length m ≡ size → length other ≡ size → read-fault (image s m) other ≡ fault 0
@@ -144,4 +154,4 @@ pub read-written :
     (s : State) (m other : List ℕ) → Words s → well-formed s ≡ true → length m ≡ size → length other ≡ size
     → read (image s m) other ≡ record { answer = record { number = 0; block = 0; state = s }; memory = m }
 unfolding read
-read-written s m other w f h o = rw (nothing-found s m other w f h o, state-found s m w, memory-found s m h)
+read-written s m other w f h o = rw (nothing-found s m other w f h o, state-found s m w f, memory-found s m h)

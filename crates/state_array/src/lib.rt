@@ -6,17 +6,19 @@ ghost use Rattle.state_array.specs.Arrays as Arrays;
 use machine::State;
 use psi::Psi;
 
-// The words of a state: WP, PC, ST and flags, and from `PSI_WORD` on the PSI's.
+// The words of a state: WP, PC, ST and flags, from `PSI_WORD` on the PSI's, and last the read-only address.
 const PSI_WORD: usize = 4;
 
-pub const STATE_WORDS: usize = PSI_WORD + Psi::WORDS;
+const ROM_WORD: usize = PSI_WORD + Psi::WORDS;
 
-// Whether each number fits its field of 16 bits.
+pub const STATE_WORDS: usize = ROM_WORD + 1;
+
+// Whether each number fits its field: those before the read-only address have 16 bits, and that has 32.
 fn fits(words: [u32; STATE_WORDS]) -> bool
     ensures { λ r. ⌜ r ≡ Arrays.fits words ⌝ }
 {
     let mut i = 0;
-    while i < STATE_WORDS {
+    while i < ROM_WORD {
         if words[i] > 0xFFFF {
             return false;
         }
@@ -45,6 +47,7 @@ pub fn state_of(words: [u32; STATE_WORDS]) -> State
             st: 0,
             flags: 0,
             psi,
+            rom: State::NO_ROM,
         };
     }
     psi.mask = narrow(words[PSI_WORD]);
@@ -61,6 +64,7 @@ pub fn state_of(words: [u32; STATE_WORDS]) -> State
         st: narrow(words[2]),
         flags: narrow(words[3]),
         psi,
+        rom: words[ROM_WORD],
     }
 }
 
@@ -82,5 +86,6 @@ pub fn words_of(state: State) -> [u32; STATE_WORDS]
         psi.reading as u32,
         psi.phase as u32,
         psi.pending as u32,
+        state.rom,
     ]
 }

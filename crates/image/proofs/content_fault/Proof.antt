@@ -13,37 +13,48 @@ returns c =
 returns-2 : tie.Need-returns-2
 unfolding content-fault
 returns-2 c =
-    simp (
-      ← c .before .before .before .field .ensures,
-      eq-eqb _ _ (c .before .before .if1 .left),
-      ← c .before .field2 .ensures,
-      ne-eqb _ _ (c .if2 .taken),
+    let k = c .before in
+    let f = k .before .before in
+    rw (
+      ← f .before .field .ensures,
+      eq-eqb _ _ (f .if1 .left),
+      ← k .before .field2 .ensures,
+      ← k .known-edition .ensures,
+      not-true (k .known-edition .result) (c .if2 .taken),
     )
 
 returns-3 : tie.Need-returns-3
 unfolding content-fault
 returns-3 c =
-    simp (
-      ← c .before .before .before .before .before .before .field .ensures,
-      eq-eqb _ _ (c .before .before .before .before .before .if1 .left),
-      ← c .before .before .before .before .field2 .ensures,
-      eq-eqb _ _ (c .before .before .before .if2 .left),
-      ← c .before .before .state-of .ensures,
-      ← c .before .well-formed .ensures,
-      not-true (c .before .well-formed .result) (c .if3 .taken),
+    let w = c .before in
+    let k = w .before .before .before in
+    let f = k .before .before in
+    rw (
+      ← f .before .field .ensures,
+      eq-eqb _ _ (f .if1 .left),
+      ← k .before .field2 .ensures,
+      ← k .known-edition .ensures,
+      not-false (k .known-edition .result) (w .before .before .if2 .left),
+      ← w .before .state-of .ensures,
+      ← w .well-formed .ensures,
+      not-true (w .well-formed .result) (c .if3 .taken),
     )
 
 returns-4 : tie.Need-returns-4
 unfolding content-fault
 returns-4 c =
-    simp (
-      ← c .before .before .before .before .before .before .before .before .field .ensures,
-      eq-eqb _ _ (c .before .before .before .before .before .before .before .if1 .left),
-      ← c .before .before .before .before .before .before .field2 .ensures,
-      eq-eqb _ _ (c .before .before .before .before .before .if2 .left),
-      ← c .before .before .before .before .state-of .ensures,
-      ← c .before .before .before .well-formed .ensures,
-      not-false (c .before .before .before .well-formed .result) (c .before .before .if3 .left),
+    let w = c .before .before .before in
+    let k = w .before .before .before in
+    let f = k .before .before in
+    rw (
+      ← f .before .field .ensures,
+      eq-eqb _ _ (f .if1 .left),
+      ← k .before .field2 .ensures,
+      ← k .known-edition .ensures,
+      not-false (k .known-edition .result) (w .before .before .if2 .left),
+      ← w .before .state-of .ensures,
+      ← w .well-formed .ensures,
+      not-false (w .well-formed .result) (c .before .before .if3 .left),
       ← c .before .filler-clear .ensures,
       not-true (c .before .filler-clear .result) (c .if4 .taken),
     )
@@ -51,14 +62,18 @@ returns-4 c =
 returns-5 : tie.Need-returns-5
 unfolding content-fault
 returns-5 c =
-    simp (
-      ← c .before .before .before .before .before .before .before .before .field .ensures,
-      eq-eqb _ _ (c .before .before .before .before .before .before .before .if1 .left),
-      ← c .before .before .before .before .before .before .field2 .ensures,
-      eq-eqb _ _ (c .before .before .before .before .before .if2 .left),
-      ← c .before .before .before .before .state-of .ensures,
-      ← c .before .before .before .well-formed .ensures,
-      not-false (c .before .before .before .well-formed .result) (c .before .before .if3 .left),
+    let w = c .before .before .before in
+    let k = w .before .before .before in
+    let f = k .before .before in
+    rw (
+      ← f .before .field .ensures,
+      eq-eqb _ _ (f .if1 .left),
+      ← k .before .field2 .ensures,
+      ← k .known-edition .ensures,
+      not-false (k .known-edition .result) (w .before .before .if2 .left),
+      ← w .before .state-of .ensures,
+      ← w .well-formed .ensures,
+      not-false (w .well-formed .result) (c .before .before .if3 .left),
       ← c .before .filler-clear .ensures,
       not-false (c .before .filler-clear .result) (c .if4 .left),
     )
@@ -69,6 +84,7 @@ content-fault-spec =
     (tie.spec
     (λ c κs. search needs)
     returns
+    (λ c κs. search needs)
     (λ c κs. search needs)
     returns-2
     (λ c κs. search needs)

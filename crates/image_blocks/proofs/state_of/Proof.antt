@@ -8,17 +8,19 @@ returns : tie.Need-returns
 unfolding state-of
 returns c =
     rw (
-      c .field4 .ensures,
-      c .before .field3 .ensures,
-      c .before .before .field2 .ensures,
-      c .before .before .before .field .ensures,
-      c .before .before .before .before .psi-of .ensures,
+      c .rom-of .ensures,
+      c .before .field4 .ensures,
+      c .before .before .field3 .ensures,
+      c .before .before .before .field2 .ensures,
+      c .before .before .before .before .field .ensures,
+      c .before .before .before .before .before .psi-of .ensures,
     )
 
 pub state-of-spec : {M : Type 1} → statement M
 state-of-spec =
     tie.close
     (tie.spec
+    (λ c κs. search needs)
     (λ c κs. search needs)
     (λ c κs. search needs)
     (λ c κs. search needs)

@@ -1,7 +1,8 @@
--- `state_of` meets its contract: where all twelve numbers fit it reads the definition's fields.
+-- `state_of` meets its contract: where the numbers fit it reads the definition's fields.
 use Prim.Native.Nat.{ℕ, _<_}
 use mathlib.Core.Path.{sym, _∙_}
 use borrow.Author.Tests.{not-true, not-false}
+use native.Mathlib.Omega.{arith}
 use lib.ListN.{getD}
 use Rattle.state_array.specs.Arrays.{state-of, held}
 use Rattle.state_array.proofs.Below.{fit-at}
@@ -9,9 +10,9 @@ use borrow.Author.Needs.{needs}
 use Rattle.state_array.proofs.state_of.Statement.{statement}
 use Rattle.state_array.proofs.state_of.Tie as tie
 
--- past the test each number fits
-fit : (c : tie.Else1) (i : ℕ) → getD (c .before .before .before .args .t1) i 0 < 65536
-fit c i = fit-at (c .before .before .before .args .t1) i (sym (c .before .fits2 .ensures) ∙ not-false (c .before .fits2 .result) (c .if1 .left))
+-- past the test each number but the last fits 16 bits
+fit : (c : tie.Else1) (i : ℕ) → i < 12 → getD (c .before .before .before .args .t1) i 0 < 65536
+fit c i l = fit-at (c .before .before .before .args .t1) i l (sym (c .before .fits2 .ensures) ∙ not-false (c .before .fits2 .result) (c .if1 .left))
 
 returns : tie.Need-returns
 unfolding state-of
@@ -46,41 +47,42 @@ state-of-spec =
     (λ c κs. search needs)
     returns
     (λ c. search needs)
-    (λ c κs. fit (c) 4)
+    (λ c κs. fit (c) 4 (omega arith))
     (λ c. search needs)
     (λ c. search needs)
     (λ c. search needs)
-    (λ c κs. fit (c .before) 5)
+    (λ c κs. fit (c .before) 5 (omega arith))
     (λ c. search needs)
     (λ c. search needs)
     (λ c. search needs)
-    (λ c κs. fit (c .before .before) 6)
+    (λ c κs. fit (c .before .before) 6 (omega arith))
     (λ c. search needs)
     (λ c. search needs)
     (λ c. search needs)
-    (λ c κs. fit (c .before .before .before) 7)
+    (λ c κs. fit (c .before .before .before) 7 (omega arith))
     (λ c. search needs)
     (λ c. search needs)
     (λ c. search needs)
-    (λ c κs. fit (c .before .before .before .before) 8)
+    (λ c κs. fit (c .before .before .before .before) 8 (omega arith))
     (λ c. search needs)
     (λ c. search needs)
     (λ c. search needs)
-    (λ c κs. fit (c .before .before .before .before .before) 9)
+    (λ c κs. fit (c .before .before .before .before .before) 9 (omega arith))
     (λ c. search needs)
     (λ c. search needs)
     (λ c. search needs)
-    (λ c κs. fit (c .before .before .before .before .before .before) 10)
+    (λ c κs. fit (c .before .before .before .before .before .before) 10 (omega arith))
     (λ c. search needs)
     (λ c. search needs)
     (λ c. search needs)
-    (λ c κs. fit (c .before .before .before .before .before .before .before) 11)
+    (λ c κs. fit (c .before .before .before .before .before .before .before) 11 (omega arith))
     (λ c. search needs)
-    (λ c κs. fit (c .before .before .before .before .before .before .before .before) 0)
+    (λ c κs. fit (c .before .before .before .before .before .before .before .before) 0 (omega arith))
     (λ c. search needs)
-    (λ c κs. fit (c .before .before .before .before .before .before .before .before .before) 1)
+    (λ c κs. fit (c .before .before .before .before .before .before .before .before .before) 1 (omega arith))
     (λ c. search needs)
-    (λ c κs. fit (c .before .before .before .before .before .before .before .before .before .before) 2)
+    (λ c κs. fit (c .before .before .before .before .before .before .before .before .before .before) 2 (omega arith))
     (λ c. search needs)
-    (λ c κs. fit (c .before .before .before .before .before .before .before .before .before .before .before) 3)
+    (λ c κs. fit (c .before .before .before .before .before .before .before .before .before .before .before) 3 (omega arith))
+    (λ c. search needs)
     returns-2)
