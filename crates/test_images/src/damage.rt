@@ -1,4 +1,4 @@
-// Images changed in one place or two, most of them with the block's check word made right again.
+// Images of both editions, changed in one place or two, most of them with the block's check word made right again.
 ghost use mathlib.Core.Path.{_≡_};
 ghost use Prim.Native.Nat.{_+_, _<_};
 ghost use lib.ListN.{length};
@@ -8,17 +8,29 @@ use seeds::below;
 use seeds::spoiled;
 
 // How many kinds of damage there are, and classes of places.
-pub const KINDS: u16 = 20;
+pub const KINDS: u16 = 24;
 
 pub const PLACES: u16 = 3;
 
 // How many blocks an image has.
 const BLOCKS: u16 = image_blocks::BLOCKS as u16;
 
-// The state's fields in block 0, after format and edition: where they begin, and how many they are.
+// The state's fields in block 0, after format and edition: where they begin, and how many there are before the read-only address.
 const STATE_AT: usize = image_blocks::CONTENT + 4;
 
-const STATE_FIELDS: usize = image_blocks::FIELDS - 2;
+const STATE_FIELDS: usize = image_blocks::ROM_FIELD - 2;
+
+// The numbers of edition and read-only address among block 0's words, of which the first is the block's number.
+const EDITION: usize = 2;
+
+const ROM: usize = image_blocks::ROM_FIELD + 1;
+
+// A case: the image's edition, the kind of damage, and the class of its place.
+pub struct Case {
+    pub edition: u16,
+    pub kind: u16,
+    pub place: u16,
+}
 
 // The word that starts at a byte.
 fn word_at(image: &[u8], at: usize) -> u16
@@ -100,8 +112,24 @@ fn block_at(seed: &mut u32, place: u16) -> usize
     }
 }
 
-// Puts a state's words into block 0.
-pub fn put_state(image: &mut [u8], state: State)
+// Puts word `n` of block 0 in place, whose check word is right after it.
+fn put_and_mend(image: &mut [u8], n: usize, word: u16)
+    requires { ⌜ length (now image) ≡ Image.image-size ⌝ }
+    requires { ⌜ n < 256 ⌝ }
+{
+    put(image, 2 * n, word);
+    mend(image, 0);
+}
+
+// Puts a read-only address into block 0.
+fn put_rom(image: &mut [u8], rom: u32)
+    requires { ⌜ length (now image) ≡ Image.image-size ⌝ }
+{
+    put_and_mend(image, ROM, (rom % 65536) as u16);
+}
+
+// Puts a state's words into block 0, all but the read-only address.
+fn put_words(image: &mut [u8], state: State)
     requires { ⌜ length (now image) ≡ Image.image-size ⌝ }
 {
     let psi = state.psi;
@@ -127,15 +155,53 @@ pub fn put_state(image: &mut [u8], state: State)
     mend(image, 0);
 }
 
+// Puts a state's words into block 0 of an image of this edition.
+pub fn put_state(image: &mut [u8], state: State, edition: u16)
+    requires { ⌜ length (now image) ≡ Image.image-size ⌝ }
+{
+    put_words(image, state);
+    if edition == image_blocks::EDITION {
+        put_rom(image, state.rom);
+    }
+}
+
+// Makes an image of edition 2 one of this edition.
+pub fn put_edition(image: &mut [u8], edition: u16)
+    requires { ⌜ length (now image) ≡ Image.image-size ⌝ }
+{
+    if edition == image_blocks::FIRST_EDITION {
+        put_and_mend(image, EDITION, edition);
+        put_rom(image, 0);
+    }
+}
+
+// A word of block 0's filler, which begins earlier in edition 1.
+fn filler(seed: &mut u32, edition: u16) -> usize
+    ensures { λ r. ⌜ r < 256 ⌝ }
+{
+    if edition == image_blocks::EDITION {
+        return 16 + below(seed, 239) as usize;
+    }
+    15 + below(seed, 240) as usize
+}
+
 // Damage to block 0 and to the filler.
-fn damage_content(image: &mut [u8], seed: &mut u32, kind: u16)
+fn damage_content(image: &mut [u8], seed: &mut u32, kind: u16, edition: u16)
     requires { ⌜ length (now image) ≡ Image.image-size ⌝ }
 {
     match kind {
-        13 => change_and_mend(image, seed, 0, 1),
-        14 => change_and_mend(image, seed, 0, 2),
-        15 => {
-            let n = 15 + below(seed, 240) as usize;
+        15 => change_and_mend(image, seed, 0, 1),
+        16 => change_and_mend(image, seed, 0, EDITION),
+        17 => {
+            let word = below(seed, 5);
+            put_and_mend(image, EDITION, word)
+        }
+        18 => {
+            let rom = 2 * below(seed, 8193);
+            put_and_mend(image, ROM, rom)
+        }
+        19 => {
+            let n = filler(seed, edition);
             change_and_mend(image, seed, 0, n)
         }
         _ => {
@@ -151,13 +217,13 @@ fn damage_block(image: &mut [u8], seed: &mut u32, kind: u16, block: usize)
     requires { ⌜ block < Image.block-count ⌝ }
 {
     match kind {
-        10 => {
+        12 => {
             let n = below(seed, 255) as usize;
             change(image, seed, block, n)
         }
-        11 => change(image, seed, block, 255),
-        12 => change_and_mend(image, seed, block, 0),
-        17 => {
+        13 => change(image, seed, block, 255),
+        14 => change_and_mend(image, seed, block, 0),
+        21 => {
             let n = 1 + below(seed, 254) as usize;
             change_and_mend(image, seed, block, n)
         }
@@ -169,20 +235,33 @@ fn damage_block(image: &mut [u8], seed: &mut u32, kind: u16, block: usize)
     }
 }
 
-// Damage of a kind, in a block of the class where the kind leaves a choice. The last kind is none, and so are any further.
-pub fn damage(image: &mut [u8], seed: &mut u32, state: State, kind: u16, place: u16)
+// Damage to the state's words; to the read-only address alone where that is spoiled, which is filler in edition 1.
+fn damage_state(image: &mut [u8], seed: &mut u32, state: State, kind: u16, edition: u16)
     requires { ⌜ length (now image) ≡ Image.image-size ⌝ }
 {
-    if kind < spoiled::WAYS {
-        put_state(image, spoiled::spoiled(seed, state, kind));
+    let bad = spoiled::spoiled(seed, state, kind);
+    if kind < spoiled::ROM_LEFT {
+        put_state(image, bad, edition);
+    } else {
+        put_rom(image, bad.rom);
+    }
+}
+
+// Damage of the case's kind, in a block of its class where the kind leaves a choice. The last kind is none, and so are any further.
+pub fn damage(image: &mut [u8], seed: &mut u32, state: State, case: Case)
+    requires { ⌜ length (now image) ≡ Image.image-size ⌝ }
+{
+    let kind = case.kind;
+    if kind < spoiled::WORD_WAYS {
+        damage_state(image, seed, state, kind, case.edition);
         return;
     }
-    if 19 <= kind {
+    if KINDS - 1 <= kind {
         return;
     }
-    let block = block_at(seed, place);
+    let block = block_at(seed, case.place);
     match kind {
-        13 | 14 | 15 | 16 => damage_content(image, seed, kind),
+        15..=20 => damage_content(image, seed, kind, case.edition),
         _ => damage_block(image, seed, kind, block),
     }
 }

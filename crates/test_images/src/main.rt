@@ -1,12 +1,16 @@
-// Images written, damaged and read, with lent parts of the right and of wrong lengths; sums of what came of it.
+// Images written, made ones of edition 1 or not, damaged, read, and written again, with lent parts of the right and of wrong lengths; sums
+// of what came of it.
 ghost use mathlib.Core.Path.{_≡_};
 ghost use Prim.Native.Nat.{_+_, _<_, _≤_};
 ghost use lib.ListN.{length};
 ghost use Rattle.memory.specs.Memory.{Installed, size};
 ghost use Rattle.image_blocks.specs.Image as Image;
+use damage::Case;
+use image::ReadAnswer;
 use machine::State;
 use seeds::below;
 use seeds::lines;
+use seeds::roms;
 use seeds::spoiled;
 use seeds::states;
 
@@ -105,59 +109,88 @@ fn put_unwritten(bytes: &[u8], image: &mut [u8], state: State, sum: u32) -> u32
     let mut plain = state;
     plain.flags = 0;
     image::write_image(plain, bytes, image);
-    damage::put_state(image, state);
+    damage::put_state(image, state, image_blocks::EDITION);
     left
 }
 
-// Makes the image of a state and of any bytes, and damages it.
-fn prepare(bytes: &mut [u8], image: &mut [u8], seed: &mut u32, kind: u16, place: u16) -> u32
+// A state with a read-only address.
+fn any_rom(seed: &mut u32) -> State {
+    let flags = below(seed, 4);
+    let mut state = states::state(seed, flags);
+    state.rom = roms::plain(seed);
+    state
+}
+
+// Makes the image of a state and of any bytes, one of the case's edition, and damages it.
+fn prepare(bytes: &mut [u8], image: &mut [u8], seed: &mut u32, case: Case) -> u32
     requires { ⌜ Installed (now bytes) ⌝ }
     requires { ⌜ length (now image) ≡ Image.image-size ⌝ }
 {
     seeds::fill(bytes, seed);
-    let flags = below(seed, 4);
-    let state = states::state(seed, flags);
+    let state = any_rom(seed);
     let written = write(bytes, image, seed, state);
     let sum = put_unwritten(bytes, image, state, written);
-    damage::damage(image, seed, state, kind, place);
+    damage::put_edition(image, case.edition);
+    damage::damage(image, seed, state, case);
     sum
 }
 
-// Reads between parts, and then the whole image.
-fn read(image: &[u8], bytes: &mut [u8], seed: &mut u32, sum: u32) -> Outcome
+// The sum with what was read of an accepted image, written again.
+fn write_again(bytes: &[u8], again: &mut [u8], answer: ReadAnswer, sum: u32) -> u32
+    requires { ⌜ Installed (now bytes) ⌝ }
+    requires { ⌜ length (now again) ≡ Image.image-size ⌝ }
+{
+    if answer.number != 0 {
+        return sum;
+    }
+    let state = answer.state;
+    let written = image::write_image(state, bytes, again);
+    let after = written.state;
+    let numbered = seeds::mix(sum, written.number as u32);
+    seeds::mix_bytes(states::mix_state(numbered, after), again)
+}
+
+// Reads between parts, and then the whole image, which is written again.
+fn read(image: &[u8], bytes: &mut [u8], again: &mut [u8], seed: &mut u32, sum: u32) -> Outcome
     requires { ⌜ Installed (now bytes) ⌝ }
     requires { ⌜ length (now image) ≡ Image.image-size ⌝ }
+    requires { ⌜ length (now again) ≡ Image.image-size ⌝ }
 {
     let parts = read_parts(image, bytes, seed, sum);
     let left = seeds::mix_bytes(parts, bytes);
     let answer = image::read_image(image, bytes);
     let state = answer.state;
+    let whole = states::mix_state(left, state);
+    let answers = write_again(bytes, again, answer, whole);
     Outcome {
         number: answer.number,
         block: answer.block,
-        answers: states::mix_state(left, state),
+        answers,
         memory: seeds::mix_bytes(0, bytes),
         image: seeds::mix_bytes(0, image),
     }
 }
 
 // One case: an image written, damaged, and read into other bytes.
-fn one(bytes: &mut [u8], image: &mut [u8], seed: &mut u32, kind: u16, place: u16) -> Outcome
+fn one(bytes: &mut [u8], image: &mut [u8], again: &mut [u8], seed: &mut u32, case: Case) -> Outcome
     requires { ⌜ Installed (now bytes) ⌝ }
     requires { ⌜ length (now image) ≡ Image.image-size ⌝ }
+    requires { ⌜ length (now again) ≡ Image.image-size ⌝ }
 {
-    let sum = prepare(bytes, image, seed, kind, place);
+    let sum = prepare(bytes, image, seed, case);
     seeds::fill(bytes, seed);
-    read(image, bytes, seed, sum)
+    read(image, bytes, again, seed, sum)
 }
 
-// A kind of damage in a class of places, shown by itself.
-fn show(bytes: &mut [u8], image: &mut [u8], seed: &mut u32, kind: u16, place: u16)
+// A case shown by itself.
+fn show(bytes: &mut [u8], image: &mut [u8], again: &mut [u8], seed: &mut u32, case: Case)
     requires { ⌜ Installed (now bytes) ⌝ }
     requires { ⌜ length (now image) ≡ Image.image-size ⌝ }
+    requires { ⌜ length (now again) ≡ Image.image-size ⌝ }
 {
-    let outcome = one(bytes, image, seed, kind, place);
-    lines::number(kind as u64);
+    let outcome = one(bytes, image, again, seed, case);
+    lines::number(case.kind as u64);
+    lines::number(case.edition as u64);
     lines::number(outcome.number as u64);
     lines::number(outcome.block as u64);
     lines::sum(outcome.answers);
@@ -165,14 +198,24 @@ fn show(bytes: &mut [u8], image: &mut [u8], seed: &mut u32, kind: u16, place: u1
     lines::last(outcome.image);
 }
 
-// Every kind of damage in every class of places.
-fn every_kind(bytes: &mut [u8], image: &mut [u8], seed: &mut u32)
+// Case `n` of every kind of damage in every class of places in either edition.
+fn case_of(n: u16) -> Case {
+    Case {
+        edition: 1 + n % 2,
+        kind: n / 2 / damage::PLACES,
+        place: n / 2 % damage::PLACES,
+    }
+}
+
+// All of them.
+fn every_kind(bytes: &mut [u8], image: &mut [u8], again: &mut [u8], seed: &mut u32)
     requires { ⌜ Installed (now bytes) ⌝ }
     requires { ⌜ length (now image) ≡ Image.image-size ⌝ }
+    requires { ⌜ length (now again) ≡ Image.image-size ⌝ }
 {
     let mut n: u16 = 0;
-    while n < damage::KINDS * damage::PLACES {
-        show(bytes, image, seed, n / damage::PLACES, n % damage::PLACES);
+    while n < 2 * damage::KINDS * damage::PLACES {
+        show(bytes, image, again, seed, case_of(n));
         n += 1;
     }
 }
@@ -184,18 +227,29 @@ fn mix_outcome(sum: u32, outcome: Outcome) -> u32 {
     seeds::mix(seeds::mix(answers, outcome.memory), outcome.image)
 }
 
-// A line: some cases with any damage, and the sum.
-fn line(bytes: &mut [u8], image: &mut [u8], seed: &mut u32)
+// Any case; of the kinds about half are none.
+fn any_case(seed: &mut u32) -> Case {
+    let edition = 1 + below(seed, 2);
+    let kind = below(seed, 2 * damage::KINDS);
+    Case {
+        edition,
+        kind,
+        place: below(seed, damage::PLACES),
+    }
+}
+
+// A line: some cases, and the sum.
+fn line(bytes: &mut [u8], image: &mut [u8], again: &mut [u8], seed: &mut u32)
     requires { ⌜ Installed (now bytes) ⌝ }
     requires { ⌜ length (now image) ≡ Image.image-size ⌝ }
+    requires { ⌜ length (now again) ≡ Image.image-size ⌝ }
 {
     let mut accepted: u64 = 0;
     let mut sum: u32 = 0;
     let mut i: u32 = 0;
     while i < CASES {
-        let kind = below(seed, 2 * damage::KINDS);
-        let place = below(seed, damage::PLACES);
-        let outcome = one(bytes, image, seed, kind, place);
+        let case = any_case(seed);
+        let outcome = one(bytes, image, again, seed, case);
         sum = mix_outcome(sum, outcome);
         accepted = std::num::wrapping_add_u64(accepted, (outcome.number == 0) as u64);
         i += 1;
@@ -205,13 +259,14 @@ fn line(bytes: &mut [u8], image: &mut [u8], seed: &mut u32)
 }
 
 // Many cases.
-fn many(bytes: &mut [u8], image: &mut [u8], seed: &mut u32)
+fn many(bytes: &mut [u8], image: &mut [u8], again: &mut [u8], seed: &mut u32)
     requires { ⌜ Installed (now bytes) ⌝ }
     requires { ⌜ length (now image) ≡ Image.image-size ⌝ }
+    requires { ⌜ length (now again) ≡ Image.image-size ⌝ }
 {
     let mut n: u32 = 0;
     while n < LINES {
-        line(bytes, image, seed);
+        line(bytes, image, again, seed);
         n += 1;
     }
 }
@@ -257,19 +312,21 @@ fn show_longer() {
     longer(&mut bytes, &mut image);
 }
 
-// All cases, on the bytes and the image of the machine's sizes.
-fn all(bytes: &mut [u8], image: &mut [u8])
+// All cases, on bytes and images of the machine's sizes.
+fn all(bytes: &mut [u8], image: &mut [u8], again: &mut [u8])
     requires { ⌜ Installed (now bytes) ⌝ }
     requires { ⌜ length (now image) ≡ Image.image-size ⌝ }
+    requires { ⌜ length (now again) ≡ Image.image-size ⌝ }
 {
     let mut seed: u32 = 17408;
-    every_kind(bytes, image, &mut seed);
-    many(bytes, image, &mut seed);
+    every_kind(bytes, image, again, &mut seed);
+    many(bytes, image, again, &mut seed);
 }
 
 fn main() {
     let mut bytes = [0u8; memory::SIZE];
     let mut image = [0u8; image_blocks::IMAGE_SIZE];
+    let mut again = [0u8; image_blocks::IMAGE_SIZE];
     show_longer();
-    all(&mut bytes, &mut image);
+    all(&mut bytes, &mut image, &mut again);
 }

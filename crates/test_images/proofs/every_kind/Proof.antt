@@ -1,4 +1,4 @@
--- A turn for each of the 20 kinds in each of the three classes, which leaves the lengths of memory and image.
+-- A turn for each of the 24 kinds in each of the three classes in either edition, which leaves the lengths of memory and images.
 use lib.ListN.{length}
 use Prim.Native.Nat.{_≤_, _-_}
 use mathlib.Core.Path.{_≡_}
@@ -7,10 +7,10 @@ use Rattle.test_images.proofs.every_kind.Statement.{statement}
 use Rattle.test_images.proofs.every_kind.Tie as tie
 
 abbrev Inv-loop : tie.InvT-loop
-Inv-loop bytes₀ image₀ seed₀ n₀ bytes image seed n = ((length bytes ≡ length bytes₀) × (length image ≡ length image₀)) × (n ≤ 60)
+Inv-loop bytes₀ image₀ again₀ seed₀ n₀ bytes image again seed n = (((length bytes ≡ length bytes₀) × (length image ≡ length image₀)) × (length again ≡ length again₀)) × (n ≤ 144)
 
 abbrev μ-loop : tie.MeasureT-loop
-μ-loop bytes₀ image₀ seed₀ n₀ bytes image seed n = 60 - n
+μ-loop bytes₀ image₀ again₀ seed₀ n₀ bytes image again seed n = 144 - n
 
 pub every-kind-spec : {M : Type 1} → statement M
 every-kind-spec =
@@ -20,7 +20,10 @@ every-kind-spec =
     μ-loop
     (λ c. search needs)
     (λ c. search needs)
+    (λ c. search needs)
     (λ c κs. search needs)
+    (λ c κs. search needs)
+    (λ c. search needs)
     (λ c. search needs)
     (λ c. search needs)
     (λ c. search needs)

@@ -1,4 +1,4 @@
--- A turn for each of the 128 lines, which leaves the lengths of memory and image.
+-- A turn for each of the 128 lines, which leaves the lengths of memory and images.
 use lib.ListN.{length}
 use Prim.Native.Nat.{_≤_, _-_}
 use mathlib.Core.Path.{_≡_}
@@ -7,10 +7,10 @@ use Rattle.test_images.proofs.many.Statement.{statement}
 use Rattle.test_images.proofs.many.Tie as tie
 
 abbrev Inv-loop : tie.InvT-loop
-Inv-loop bytes₀ image₀ seed₀ n₀ bytes image seed n = ((length bytes ≡ length bytes₀) × (length image ≡ length image₀)) × (n ≤ 128)
+Inv-loop bytes₀ image₀ again₀ seed₀ n₀ bytes image again seed n = (((length bytes ≡ length bytes₀) × (length image ≡ length image₀)) × (length again ≡ length again₀)) × (n ≤ 128)
 
 abbrev μ-loop : tie.MeasureT-loop
-μ-loop bytes₀ image₀ seed₀ n₀ bytes image seed n = 128 - n
+μ-loop bytes₀ image₀ again₀ seed₀ n₀ bytes image again seed n = 128 - n
 
 pub many-spec : {M : Type 1} → statement M
 many-spec =
@@ -20,6 +20,7 @@ many-spec =
     μ-loop
     (λ c. search needs)
     (λ c κs. search needs)
+    (λ c. search needs)
     (λ c. search needs)
     (λ c. search needs)
     (λ c. search needs)

@@ -3,8 +3,8 @@ use lib.ListN.{length}
 use Prim.Native.Nat.{_≤_, _-_}
 use mathlib.Core.Path.{_≡_}
 use borrow.Author.Needs.{needs}
-use Rattle.test_images.proofs.damage.put_state.Statement.{statement}
-use Rattle.test_images.proofs.damage.put_state.Tie as tie
+use Rattle.test_images.proofs.damage.put_words.Statement.{statement}
+use Rattle.test_images.proofs.damage.put_words.Tie as tie
 
 abbrev Inv-loop : tie.InvT-loop
 Inv-loop image₀ words n₀ image n = (length image ≡ length image₀) × (n ≤ 12)
@@ -12,8 +12,8 @@ Inv-loop image₀ words n₀ image n = (length image ≡ length image₀) × (n 
 abbrev μ-loop : tie.MeasureT-loop
 μ-loop image₀ words n₀ image n = 12 - n
 
-pub put-state-spec : {M : Type 1} → statement M
-put-state-spec =
+pub put-words-spec : {M : Type 1} → statement M
+put-words-spec =
     tie.close
     (tie.spec
     Inv-loop
