@@ -1,6 +1,6 @@
 ! The replay machine for a TMS 9980A with a TMS 9901, for Fortran. What is lent, what the answers mean and what a caller
 ! owes stands in tms_replay.h. The names are those of C, but for two arguments: `stop_at` is `stop` there, and
-! `block_number` is `block`. The places of a state's words, of a run's counts and of the numbers about a line are counted
+! `block_number` is `block`. The places of a state's numbers, of a run's counts and of the numbers about a line are counted
 ! from 1, in C from 0. Compile this file with the program, and link target/staticlib/libtms_replay.a, which
 ! `rt staticlib tms_replay` writes.
 
@@ -8,14 +8,17 @@ module tms_replay
   use, intrinsic :: iso_c_binding, only: c_int8_t, c_int16_t, c_int32_t, c_int64_t, c_size_t
   implicit none
 
-  ! Sizes: the memory's and an image's bytes, the bytes that a line may need, a state's words, a run's counts, the
+  ! Sizes: the memory's and an image's bytes, the bytes that a line may need, a state's numbers, a run's counts, the
   ! numbers about a line.
   integer(c_size_t), parameter :: tms_memory_size = 16384, tms_image_size = 17408, tms_line_size = 48
-  integer, parameter :: tms_state_words = 12, tms_counts = 4, tms_line_answer = 2
+  integer, parameter :: tms_state_words = 13, tms_counts = 4, tms_line_answer = 2
 
-  ! The words of a state, each a number from 0 to 65535; flags are at most 2 (1: idle, 2: the next boundary takes no sample).
+  ! The numbers of a state, from 0 to 65535 each; flags are at most 2 (1: idle, 2: the next boundary takes no sample). The
+  ! last is the first read-only address, even, at most tms_no_rom, which means none.
   integer, parameter :: tms_wp = 1, tms_pc = 2, tms_st = 3, tms_flags = 4, tms_mask = 5, tms_direction = 6, &
-      tms_latch = 7, tms_load = 8, tms_decrementer = 9, tms_reading = 10, tms_phase = 11, tms_pending = 12
+      tms_latch = 7, tms_load = 8, tms_decrementer = 9, tms_reading = 10, tms_phase = 11, tms_pending = 12, &
+      tms_rom = 13
+  integer(c_int32_t), parameter :: tms_no_rom = 16384
 
   ! A run's counts: steps done, unassigned words met, the kind of the last step, and the number that goes with it.
   integer, parameter :: tms_steps = 1, tms_unassigned = 2, tms_last = 3, tms_last_number = 4

@@ -9,7 +9,7 @@
    leaves it as it was given, bit for bit.
 
    What a caller owes: no pointer is null, not even that of an empty slice; each is aligned for its
-   type; what is changed overlaps nothing else of the same call; `state` has 12 elements, `counts`
+   type; what is changed overlaps nothing else of the same call; `state` has 13 elements, `counts`
    has 4 and `answer` 2. Nothing is kept after a call, and nothing is allocated.
 
    The contracts of the functions, proved for all arguments, stand in
@@ -27,16 +27,16 @@
 extern "C" {
 #endif
 
-/* Sizes: the memory's and an image's bytes, the bytes that a line may need, a state's words, a
+/* Sizes: the memory's and an image's bytes, the bytes that a line may need, a state's numbers, a
    run's counts, the numbers about a line. */
 #define TMS_MEMORY_SIZE 16384
 #define TMS_IMAGE_SIZE 17408
 #define TMS_LINE_SIZE 48
-#define TMS_STATE_WORDS 12
+#define TMS_STATE_WORDS 13
 #define TMS_COUNTS 4
 #define TMS_LINE_ANSWER 2
 
-/* The words of a state: numbers of 16 bits, in elements of 32. */
+/* The numbers of a state, in elements of 32 bits: all have 16 bits but the last, which has 32. */
 enum {
   TMS_WP,          /* workspace pointer */
   TMS_PC,          /* program counter */
@@ -49,8 +49,14 @@ enum {
   TMS_DECREMENTER, /* the clock's value */
   TMS_READING,     /* the clock's read register */
   TMS_PHASE,       /* cycles since the last tick or the last write of a load bit, 0 to 63 */
-  TMS_PENDING      /* 1: the clock's request is pending */
+  TMS_PENDING,     /* 1: the clock's request is pending */
+  TMS_ROM          /* the first read-only address, even, 0 to 16384: a store whose address modulo
+                      16384 is at or above it is dropped */
 };
+
+/* The first read-only address of a machine without a read-only part. A state of zeros is another
+   one: all of its memory is read-only. */
+#define TMS_NO_ROM 16384
 
 /* A run's counts, and what its last step was. */
 enum {
@@ -83,18 +89,18 @@ enum {
 enum {
   TMS_ACCEPTED = 0,
   TMS_MEMORY = 1,       /* the memory has not 16384 bytes */
-  TMS_STATE = 2,        /* the state is not well formed, or an element is above 65535 */
+  TMS_STATE = 2,        /* the state is not well formed, or one of its numbers does not fit 16 bits */
   TMS_RECORDS = 3,      /* more steps asked than there are records */
   TMS_IMAGE = 5,        /* the image or its buffer has not 17408 bytes */
   TMS_BLOCK_CHECK = 6,  /* a block's check is wrong */
   TMS_BLOCK_NUMBER = 7, /* a block's number is wrong */
-  TMS_FORMAT = 8,       /* the format word or the edition is wrong */
+  TMS_FORMAT = 8,       /* the format word is wrong, or the edition is neither 1 nor 2 */
   TMS_FIELDS = 9,       /* the fields are not well formed, or filler is not 0 */
   TMS_TEXT = 11         /* the buffer for a line has fewer than 48 bytes */
 };
 
-/* Power up: the blank PSI and the reset entry from blank registers. Leaves the state in `state`:
-   after a refusal the blank state. Answers 1, 0. */
+/* Power up: the blank PSI and the reset entry from blank registers, with nothing read-only. Leaves
+   the state in `state`: after a refusal the blank state. Answers 1, 0. */
 uint16_t tms_power_up(uint8_t *memory, size_t memory_len, uint32_t state[TMS_STATE_WORDS]);
 
 /* Runs at most `steps` steps, one pin record each, and stops before a step whose PC is `stop` (an
@@ -106,14 +112,14 @@ uint16_t tms_run(uint8_t *memory, size_t memory_len, uint32_t state[TMS_STATE_WO
                  const uint32_t *records, size_t records_len, size_t steps, uint16_t stop,
                  uint64_t counts[TMS_COUNTS]);
 
-/* Reads an image into `memory` and `state`. Refusals 6 and 7 leave the number of the lowest bad
+/* Reads an image of edition 1 or 2 into `memory` and `state`; edition 1 has no read-only part. Refusals 6 and 7 leave the number of the lowest bad
    block in `block`, all other answers 0. A refusal leaves the blank state in `state`, and the
    memory as it was. Answers 1, 5, then 6 and 7 block by block, 8, 9, 0. */
 uint16_t tms_read_image(const uint8_t *image, size_t image_len, uint8_t *memory, size_t memory_len,
                         uint32_t state[TMS_STATE_WORDS], uint32_t *block);
 
-/* Writes an image of `state` and `memory` into the buffer `image`, which a refusal leaves as it
-   was. Answers 1, 5, 2, 0. */
+/* Writes an image of `state` and `memory`, of edition 2, into the buffer `image`, which a refusal
+   leaves as it was. Answers 1, 5, 2, 0. */
 uint16_t tms_write_image(const uint32_t state[TMS_STATE_WORDS], const uint8_t *memory,
                          size_t memory_len, uint8_t *image, size_t image_len);
 

@@ -30,8 +30,8 @@ extern "C" {
     ) -> u16;
 }
 
-/// A state's twelve words, in the order of an image's block 0, each in an element of 32 bits.
-pub type Words = [u32; 12];
+/// A state's thirteen words, in the order of an image's block 0, each in an element of 32 bits.
+pub type Words = [u32; 13];
 
 /// A run's four counts.
 pub type Counts = [u64; 4];
@@ -39,24 +39,25 @@ pub type Counts = [u64; 4];
 pub fn words(state: &State) -> Words {
     let psi = &state.psi;
     [
-        state.wp,
-        state.pc,
-        state.st,
-        state.flags,
-        psi.control_and_masks,
-        psi.directions,
-        psi.latches,
-        psi.load,
-        psi.decrementer,
-        psi.read_register,
-        psi.phase,
-        psi.pending,
+        u32::from(state.wp),
+        u32::from(state.pc),
+        u32::from(state.st),
+        u32::from(state.flags),
+        u32::from(psi.control_and_masks),
+        u32::from(psi.directions),
+        u32::from(psi.latches),
+        u32::from(psi.load),
+        u32::from(psi.decrementer),
+        u32::from(psi.read_register),
+        u32::from(psi.phase),
+        u32::from(psi.pending),
+        state.read_only,
     ]
-    .map(u32::from)
 }
 
-/// The state of twelve words, each of which fits 16 bits.
+/// The state of thirteen words, of which the first twelve fit 16 bits.
 pub fn state(words: &Words) -> State {
+    let read_only = words[12];
     let words = words.map(|w| u16::try_from(w).unwrap());
     State {
         wp: words[0],
@@ -73,6 +74,7 @@ pub fn state(words: &Words) -> State {
             phase: words[10],
             pending: words[11],
         },
+        read_only,
     }
 }
 

@@ -1,5 +1,6 @@
 /* Powers up on a memory with vectors and a small program, lists it, runs it, carries the machine
-   through an image, runs on, is interrupted, and is refused in several ways. */
+   through an image, runs on, makes a part read-only, is interrupted, and is refused in several
+   ways. */
 
 #include <inttypes.h>
 #include <stdio.h>
@@ -80,6 +81,13 @@ int main(void) {
   printf("wrote %u read %u block %" PRIu32 "\n", wrote, read, block);
   line(run(2));
 
+  /* From R2 on everything is read-only: A R1,R2 sets the status, and R2 keeps its 8000h. */
+  state[TMS_ROM] = 0x0304;
+  state[TMS_PC] = 0x0108;
+  line(run(1));
+  printf("r2 %02X%02X rom %" PRIu32 "\n", memory[0x0304], memory[0x0305], state[TMS_ROM]);
+  state[TMS_ROM] = TMS_NO_ROM;
+
   /* Request 3 is enabled, its pin is low and the status's mask admits level 1: an entry. A run of
      no steps has no last one. */
   state[TMS_MASK] = 1 << 3;
@@ -89,8 +97,14 @@ int main(void) {
   records[0] |= 1u << 2;
   line(run(0));
 
-  /* Refusals: too few records; both flags; a number that does not fit its word, which stays. */
+  /* Refusals: too few records; an odd read-only address, and one beyond the memory; both flags; a
+     number that does not fit its word, which stays. */
   line(run(9));
+  state[TMS_ROM] = TMS_NO_ROM - 1;
+  line(run(1));
+  state[TMS_ROM] = 65536;
+  line(run(1));
+  state[TMS_ROM] = TMS_NO_ROM;
   state[TMS_FLAGS] = 3;
   line(run(1));
   state[TMS_FLAGS] = 0;
@@ -99,12 +113,13 @@ int main(void) {
   wrote = tms_write_image(state, memory, sizeof memory, image, sizeof image);
   printf("wrote %u st %" PRIu32 "\n", wrote, state[TMS_ST]);
 
-  /* A damaged block, and a short image: the blank state comes back. */
+  /* A damaged block, and a short image: the blank state comes back, with nothing read-only. */
   image[3 * 512 + 10] ^= 1;
   read = tms_read_image(image, sizeof image, memory, sizeof memory, state, &block);
   printf("read %u block %" PRIu32 " pc %04" PRIX32 "\n", read, block, state[TMS_PC]);
   read = tms_read_image(image, sizeof image - 1, memory, sizeof memory, state, &block);
-  printf("read %u block %" PRIu32 " pc %04" PRIX32 "\n", read, block, state[TMS_PC]);
+  printf("read %u block %" PRIu32 " pc %04" PRIX32 " rom %" PRIu32 "\n", read, block, state[TMS_PC],
+         state[TMS_ROM]);
 
   /* A memory of another size: the blank state, but a run keeps its own. */
   uint16_t answer = tms_power_up(memory, sizeof memory - 2, state);

@@ -1,5 +1,5 @@
 ! Powers up on a memory with a reset vector and a small program, lists it, runs it, carries the machine through an image,
-! runs on, and is refused in several ways. The module tms_replay is include/tms_replay.f90.
+! runs on, makes a part read-only, and is refused in several ways. The module tms_replay is include/tms_replay.f90.
 
 program powered
   use, intrinsic :: iso_c_binding
@@ -48,14 +48,26 @@ program powered
   call read_image(tms_image_size)
   call run(2)
 
-  ! Refusals: too few records; both flags; a number that does not fit its word, which stays; a damaged block; a short image.
+  ! From R2 on everything is read-only: A R1,R2 sets the status, and R2 keeps its 8000h.
+  state(tms_rom) = int(z'0304', c_int32_t)
+  state(tms_pc) = int(z'0108', c_int32_t)
+  call run(1)
+  print '(a, z2.2, z2.2, a, i0)', 'r2 ', memory(int(z'0304')), memory(int(z'0305')), ' rom ', state(tms_rom)
+
+  ! Refusals: too few records; an odd read-only address, and one beyond the memory; both flags; a number that does not fit
+  ! its word, which stays; a damaged block; a short image.
   call run(9)
+  state(tms_rom) = tms_no_rom - 1
+  call run(1)
+  state(tms_rom) = 65536
+  call run(1)
+  state(tms_rom) = tms_no_rom
   state(tms_flags) = 3
   call run(1)
   state(tms_flags) = 0
   state(tms_st) = 65536
   call run(1)
-  print '(12(i0, 1x))', state
+  print '(13(i0, 1x))', state
   answer = tms_write_image(state, memory, tms_memory_size, image, tms_image_size)
   print '(a, i0)', 'wrote ', answer
   image(3 * 512 + 10) = not(image(3 * 512 + 10))
@@ -101,7 +113,7 @@ contains
     print '(a, i0, a, i0, a, i0)', 'read ', answer, ' block ', block_number, ' pc ', state(tms_pc)
   end subroutine
 
-  ! The words of a state are never negative, so they print as they are.
+  ! The numbers of a state are never negative, so they print as they are.
   subroutine line()
     print '(a, i0, a, i0, a, i0, a, i0, a, i0, a, i0, a)', 'answer ', answer, ' steps ', counts(tms_steps), &
         ' unassigned ', counts(tms_unassigned), ' pc ', state(tms_pc), ' wp ', state(tms_wp), ' st ', state(tms_st), &
