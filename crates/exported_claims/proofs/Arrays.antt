@@ -1,4 +1,4 @@
--- Twelve numbers that fit are a state's fields one by one, and the other way round; an array that does not fit stands for a state that is
+-- Thirteen numbers that fit are a state's fields one by one, and the other way round; an array that does not fit stands for a state that is
 -- not well formed, so that its refusal is that of the definition.
 use Prim.Native.Nat.{ℕ, zero, suc, _+_, _<_}
 use mathlib.Core.Path.{_≡_, refl, sym, ap, _∙_}
@@ -19,13 +19,13 @@ use Rattle.machine.specs.Answer.{number, value}
 use Rattle.machine.specs.Run as Run
 use Rattle.image_blocks.specs.Image as Image
 use Rattle.image.specs.Calls as Calls
-use Rattle.state_array.specs.Arrays.{fits, held, unfit, state-of}
+use Rattle.state_array.specs.Arrays.{all-fit, fits, held, unfit, state-of}
 use Rattle.state_array.proofs.Below.{fit-at}
 use Rattle.tms_replay.specs.Exported.{run, write}
 use Rattle.exported_claims.specs.Arrays.{State-of-its-words, Words-of-their-state, Refused-runs, Unfit-runs, Unfit-writes}
 
 pub state-of-its-words : State-of-its-words
-unfolding state-of fits held Image.fields
+unfolding state-of fits all-fit held Image.fields
 state-of-its-words s w =
     rw (
       lt-ltb (s .wp) 65536 (w .wp),
@@ -53,7 +53,7 @@ listed-all w (suc k) i h = ap (_∷_ (getD w i 0)) (listed-all w k (i + 1) (omeg
 
 pub words-of-their-state : Words-of-their-state
 unfolding state-of held Image.fields
-words-of-their-state w h f = rw f (listed-all w 12 0 h)
+words-of-their-state w h f = rw f (listed-all w 13 0 h)
 
 -- the state of an array has fields of 16 bits
 pub state-words : (w : List ℕ) → Words (state-of w)
@@ -62,22 +62,22 @@ state-words w = by-test (fits w) refl
   where
     by-test : (t : Bool) → fits w ≡ t → Words (state-of w)
     by-test true e =
-        let fit : (i : ℕ) → getD w i 0 < 65536 = λ i. fit-at w i e in
+        let fit : (i : ℕ) → i < 12 → getD w i 0 < 65536 = λ i l. fit-at w i l e in
         rw e
         (record {
-          wp = fit 0;
-          pc = fit 1;
-          st = fit 2;
-          flags = fit 3;
+          wp = fit 0 (omega arith);
+          pc = fit 1 (omega arith);
+          st = fit 2 (omega arith);
+          flags = fit 3 (omega arith);
           psi = record {
-            mask = fit 4;
-            direction = fit 5;
-            latch = fit 6;
-            load = fit 7;
-            decrementer = fit 8;
-            reading = fit 9;
-            phase = fit 10;
-            pending = fit 11;
+            mask = fit 4 (omega arith);
+            direction = fit 5 (omega arith);
+            latch = fit 6 (omega arith);
+            load = fit 7 (omega arith);
+            decrementer = fit 8 (omega arith);
+            reading = fit 9 (omega arith);
+            phase = fit 10 (omega arith);
+            pending = fit 11 (omega arith);
           };
         })
     by-test false e =

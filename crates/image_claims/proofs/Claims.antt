@@ -7,12 +7,13 @@ use mathlib.Core.Bool.{Bool, true, false}
 use mathlib.Core.List.{List, _++_}
 use native.Mathlib.Nat.{zero-add}
 use borrow.Author.Tests.{eq-eqb, ne-eqb, eqb-true}
-use lib.ListN.{length, drop, take-append-drop}
+use lib.ListN.{length, take, drop, take-append-drop}
 use lib.Dec.{eqb}
 use Rattle.memory.specs.Memory.{size, Bytes}
 use Rattle.machine.specs.declared.State.{State}
-use Rattle.machine.specs.State.{well-formed}
+use Rattle.machine.specs.State.{no-rom, well-formed}
 use Rattle.image_blocks.specs.Image as Image
+use Rattle.image_blocks.specs.Blocks.{put-word}
 use Rattle.image.specs.Calls.{read, read-fault, first-fault, write, write-fault}
 use Rattle.image_claims.specs.Claims.{Reads-what-was-written, renewed, Writes, Writes-what-was-read, Renews-the-first-edition, Accepted-exactly, Sound-block, Names-the-lowest}
 use Rattle.image_blocks.proofs.Parts.{memory-length}
@@ -81,7 +82,7 @@ writes-what-was-read img m bytes z e =
 pub renews-the-first-edition : Renews-the-first-edition
 unfolding renewed
 renews-the-first-edition img m bytes z e =
-    rewritten img m bytes z _
+    rewritten img m bytes z (Image.checked (take 510 (put-word (put-word (Image.block-of img 0) 4 Image.edition) 30 no-rom)))
     (first-back img (known img m bytes z .image-sized) bytes (Image.memory-of img) (in-order img m bytes z) (each img m bytes z 0 (omega arith)) e)
 
 -- a refused read hands on the number and the block that were found

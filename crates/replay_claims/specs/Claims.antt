@@ -6,6 +6,7 @@ use lib.ListN.{length, take}
 use Rattle.memory.specs.Memory.{size}
 use Rattle.psi.specs.Psi as Own
 use Rattle.machine.specs.declared.State.{State}
+use Rattle.machine.specs.State.{no-rom}
 use Rattle.machine.specs.Cases.{word, poked, zeros}
 use Rattle.image_blocks.specs.Image as Image
 use Rattle.text.specs.Texts.{ascii}
@@ -22,9 +23,9 @@ Starts-of-files =
     (image pins after : List ℕ)
     → replay (take (Image.image-size + 1) image) (take (4 * (1 + Pins.most)) pins) after ≡ replay image pins after
 
--- Document 01's example: WP 0300h, PC 0100h, ST 0, blank PSI, flags 0; P1's word, then 0000h at 0100h, 7FFFh at 0302h, 0001h at 0304h.
+-- Document 01's example: WP 0300h, PC 0100h, ST 0, blank PSI, flags 0, nothing read-only; P1's word, then 0000h at 0100h, 7FFFh at 0302h, 0001h at 0304h.
 abbrev pub start : State
-start = record { wp = 0x0300; pc = 0x0100; st = 0; flags = 0; psi = Own.blank }
+start = record { wp = 0x0300; pc = 0x0100; st = 0; flags = 0; psi = Own.blank; rom = no-rom }
 
 abbrev pub memory : List ℕ
 memory = poked (word 0x0100 0xA081 ∷ word 0x0102 0x0000 ∷ word 0x0302 0x7FFF ∷ word 0x0304 0x0001 ∷ []) zeros
@@ -38,7 +39,7 @@ line = ascii "answer 0 steps 2 unassigned 1 pc 0104 wp 0300 st 8800 word\n"
 
 -- what the machine is after it: R2, at 0304h, is 8000h
 abbrev pub end : State
-end = record { wp = 0x0300; pc = 0x0104; st = 0x8800; flags = 0; psi = Own.blank }
+end = record { wp = 0x0300; pc = 0x0104; st = 0x8800; flags = 0; psi = Own.blank; rom = no-rom }
 
 abbrev pub memory-after : List ℕ
 memory-after = poked (word 0x0304 0x8000 ∷ []) memory

@@ -1,4 +1,4 @@
--- The calls as C, Fortran and Rust see them: a state is an array of twelve numbers, a run's counts are four, a line's length and words
+-- The calls as C, Fortran and Rust see them: a state is an array of thirteen numbers, a run's counts are four, a line's length and words
 -- two, a block is one.
 use Prim.Native.Nat.{ℕ}
 use mathlib.Core.Path.{_≡_}

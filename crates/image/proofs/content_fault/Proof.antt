@@ -15,7 +15,7 @@ unfolding content-fault
 returns-2 c =
     let k = c .before in
     let f = k .before .before in
-    rw (
+    simp (
       ← f .before .field .ensures,
       eq-eqb _ _ (f .if1 .left),
       ← k .before .field2 .ensures,
@@ -29,7 +29,7 @@ returns-3 c =
     let w = c .before in
     let k = w .before .before .before in
     let f = k .before .before in
-    rw (
+    simp (
       ← f .before .field .ensures,
       eq-eqb _ _ (f .if1 .left),
       ← k .before .field2 .ensures,
@@ -46,7 +46,7 @@ returns-4 c =
     let w = c .before .before .before in
     let k = w .before .before .before in
     let f = k .before .before in
-    rw (
+    simp (
       ← f .before .field .ensures,
       eq-eqb _ _ (f .if1 .left),
       ← k .before .field2 .ensures,
@@ -65,7 +65,7 @@ returns-5 c =
     let w = c .before .before .before in
     let k = w .before .before .before in
     let f = k .before .before in
-    rw (
+    simp (
       ← f .before .field .ensures,
       eq-eqb _ _ (f .if1 .left),
       ← k .before .field2 .ensures,
