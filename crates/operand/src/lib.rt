@@ -31,21 +31,6 @@ fn indexed(bytes: &[u8], state: State, n: u16) -> Loaded
     }
 }
 
-// The address in a register, which rises by the operand's bytes.
-fn stepped(bytes: &mut [u8], state: State, width: Width, n: u16) -> Loaded
-    requires { ⌜ Installed (now bytes) ⌝ }
-    ensures { λ r. ⌜ ((v : ℕ) → perform v (Operands.stepped width n) (at state (now (bytes .entry))) ≡ performed (r .value) (at (r .state) (now (bytes .exit)))) ⌝ }
-{
-    let old = bus::register(bytes, state, n);
-    let from = old.state;
-    let next = std::num::wrapping_add_u16(old.value, memory::bytes(width));
-    let after = bus::set_register(bytes, from, n, next);
-    Loaded {
-        value: old.value,
-        state: after,
-    }
-}
-
 // The address of a general operand.
 pub fn address(bytes: &mut [u8], state: State, width: Width, operand: Operand) -> Loaded
     requires { ⌜ Installed (now bytes) ⌝ }
@@ -60,11 +45,20 @@ pub fn address(bytes: &mut [u8], state: State, width: Width, operand: Operand) -
             state,
         };
     }
-    if mode == 1 {
-        return bus::register(bytes, state, n);
-    }
     if mode == 2 {
         return indexed(bytes, state, n);
     }
-    stepped(bytes, state, width, n)
+    // One read of the register for both modes that are left: a second one would make this function too large to be compiled into its
+    // callers.
+    let held = bus::register(bytes, state, n);
+    if mode == 1 {
+        return held;
+    }
+    let from = held.state;
+    let next = std::num::wrapping_add_u16(held.value, memory::bytes(width));
+    let after = bus::set_register(bytes, from, n, next);
+    Loaded {
+        value: held.value,
+        state: after,
+    }
 }
