@@ -12,6 +12,13 @@ set-register-requires-3 c κs =
     let r13 = r14 .before .before .before .before in
     r14 .set-register2 .kept .0 ∙ r13 .set-register .kept .0 ∙ r13 .before .before .before .before .before .before .before .before .before .before .before .pre
 
+same-length : tie.Need-same-length
+same-length c =
+    let r15 = c .before .before .before .before .before in
+    let r14 = r15 .before .before .before .before in
+    let r13 = r14 .before .before .before .before in
+    r15 .set-register3 .kept .0 ∙ r14 .set-register2 .kept .0 ∙ r13 .set-register .kept .0
+
 returns : tie.Need-returns
 unfolding switch
 returns c v =
@@ -57,5 +64,5 @@ switch-spec =
     (λ c κs. search needs)
     (λ c κs. search needs)
     (λ c κs. search needs)
-    (λ c. search needs)
+    same-length
     returns)
