@@ -2,9 +2,9 @@
 use Prim.Native.Nat.{ℕ, _-_, _^_}
 use mathlib.Core.Path.{_≡_}
 use mathlib.Core.List.{List, [], _∷_}
-use Rattle.machine.specs.State.{Machine, at}
+use Rattle.machine.specs.State.{Machine, at, no-rom}
 use Rattle.machine.specs.Cases.{word, poked, never, quiet, zeros}
-use Rattle.book.specs.Book.{Note, Book, Call, all-moments, book-after}
+use Rattle.book.specs.Book.{Note, Book, moment, Call, all-moments, book-after}
 
 -- the vectors, two words each, and instructions at addresses of their own
 abbrev memory : List ℕ
@@ -29,9 +29,9 @@ memory =
     ∷ [])
     zeros
 
--- WP 0300h, ST 0004h, PC as given; requests 1, 2 and 3 are enabled
-abbrev from : ℕ → Machine
-from pc =
+-- WP 0300h, ST 0004h, PC and the read-only address as given; requests 1, 2 and 3 are enabled
+abbrev from : ℕ → ℕ → Machine
+from first pc =
     at
     (record {
       wp = 0x300;
@@ -39,6 +39,7 @@ from pc =
       st = 4;
       flags = 0;
       psi = record { mask = 0xE; direction = 0; latch = 0; load = 0; decrementer = 0; reading = 0; phase = 0; pending = 0 };
+      rom = first;
     })
     memory
 
@@ -64,16 +65,17 @@ earlier = record { workspace = 0x360; wp = 0x380; pc = 0x700; st = 0x2002 }
 abbrev two : Book
 two = latest ∷ earlier ∷ []
 
--- a row: where the machine is, its book, calls one after the other, and the book after them
+-- a row: the read-only address, where the machine is, its book, calls one after the other, and the book after them
 pub record Row : Type 0 where
+  pub rom : ℕ
   pub pc : ℕ
   pub book : Book
   pub calls : List Call
   pub after : Book
 
--- a row with one call
+-- a row with one call, and nothing read-only
 abbrev row : ℕ → Book → Call → Book → Row
-row pc book c after = record { pc = pc; book = book; calls = c ∷ []; after = after }
+row pc book c after = record { rom = no-rom; pc = pc; book = book; calls = c ∷ []; after = after }
 
 unfoldable pub table : List Row
 table =
@@ -100,16 +102,22 @@ table =
     ∷ row 0x120 two (record { records = quiet 0 ∷ quiet 0 ∷ quiet 0 ∷ []; steps = 3; stop = 0x124 }) two
     -- BLWP in a call, a refused call whose pins would have it reset, RTWP in a third call
     ∷ record {
+      rom = no-rom;
       pc = 0x120;
       book = two;
       calls = call 1 (quiet 0 ∷ []) ∷ call 2 (low 1 ∷ []) ∷ call 1 (quiet 0 ∷ []) ∷ [];
       after = two;
     }
+    -- the same BLWP where its save words, from 029Ah on, are read-only, and so dropped: the note is as before
+    ∷ record { rom = 0x29A; pc = 0x120; book = two; calls = call 1 (quiet 0 ∷ []) ∷ []; after = noted 0x280 0x124 ∷ two }
+    -- level 1 with all its save words dropped; the same call refused, for an odd read-only address
+    ∷ record { rom = 0x200; pc = 0x100; book = []; calls = call 1 (low 3 ∷ []) ∷ []; after = noted 0x220 0x100 ∷ [] }
+    ∷ record { rom = 0x201; pc = 0x100; book = two; calls = call 1 (low 3 ∷ []) ∷ []; after = two }
     ∷ []
 
 -- the book after a row's calls
 unfoldable pub left : Row → Book
-left r = book-after (r .book) (all-moments (from (r .pc)) (r .book) (r .calls))
+left r = book-after (r .book) (all-moments (from (r .rom) (r .pc)) (r .book) (r .calls))
 
 unfoldable pub Hold : List Row → Type 0
 Hold [] = Unit
@@ -118,3 +126,9 @@ Hold (r ∷ rs) = (left r ≡ r .after) × Hold rs
 -- the claim
 abbrev pub Examples-hold : Type 0
 Examples-hold = Hold table
+
+-- Which bytes BLWP stores into (Q-7): those of its save words, and where memory is read-only from the second of these on, the first's.
+abbrev pub Stores-hold : Type 0
+Stores-hold =
+    (moment (quiet 0) (from no-rom 0x120) [] .writes ≡ 0x29A ∷ 0x29B ∷ 0x29C ∷ 0x29D ∷ 0x29E ∷ 0x29F ∷ [])
+    × (moment (quiet 0) (from 0x29C 0x120) [] .writes ≡ 0x29A ∷ 0x29B ∷ [])

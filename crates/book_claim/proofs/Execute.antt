@@ -19,9 +19,8 @@ use Rattle.machine.specs.Operands.{register-at, register, operand}
 use Rattle.machine.specs.Groups as G
 use Rattle.machine.specs.Execute.{command-deed, instruction, again, execute}
 use Rattle.machine.proofs.Loads.{loads-bind, operand-loads, load-loads}
-use Rattle.book_claim.specs.Claim.{Stands}
 use Rattle.book_claim.proofs.Does.{Judgement, Does, Movable, after-steady, then-done}
-use Rattle.book_claim.proofs.Switch.{noted, Saved, saved-movable, blwp-saves, xop-operand-saves}
+use Rattle.book_claim.proofs.Switch.{noted, Standing, Entered, entered-movable, blwp-saves, xop-operand-saves}
 
 -- WP, PC and ST were loaded from R13, R14 and R15 of a workspace
 pub record Taken (workspace : ℕ) (n : Machine) : Type 0 where
@@ -33,14 +32,14 @@ pub record Taken (workspace : ℕ) (n : Machine) : Type 0 where
 unfoldable pub Meant : Judgement Deed
 Meant deed.Ordinary m n words = Unit
 Meant deed.Unassigned m n words = Unit
-Meant deed.Switched m n words = Stands (n .memory) (noted m n words)
+Meant deed.Switched m n words = Standing n (noted m n words)
 Meant deed.Returned m n words = Taken (m .state .wp) n
 
 pub meant-movable : Movable Meant
 unfolding Meant
 meant-movable deed.Ordinary l m n i j h d = tt
 meant-movable deed.Unassigned l m n i j h d = tt
-meant-movable deed.Switched l m n i j h d = saved-movable deed.Switched l m n i j h d
+meant-movable deed.Switched l m n i j h d = entered-movable deed.Switched l m n i j h d
 meant-movable deed.Returned l m n i j h d = rw (← h .wp) d
 
 -- nothing is claimed of an ordinary instruction
@@ -52,9 +51,9 @@ unassigned : Does Meant (done deed.Unassigned)
 unfolding Meant perform
 unassigned v m h = tt
 
-switched : (p : Micro (Unit {0})) → Does Saved p → Does Meant (p >> done deed.Switched)
+switched : (p : Micro (Unit {0})) → Does Entered p → Does Meant (p >> done deed.Switched)
 unfolding Meant
-switched p d = then-done Saved Meant (λ u. deed.Switched) (λ u m n i s. s) p d
+switched p d = then-done Entered Meant (λ u. deed.Switched) (λ u m n i s. s) p d
 
 returned : Does Meant (G.return >> done deed.Returned)
 unfolding Meant perform accesses fetches G.return register registers set load

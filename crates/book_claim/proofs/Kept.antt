@@ -1,5 +1,6 @@
 -- One step keeps the book: a note that stood still stands, because the step stores into none of its save words; a new note
--- stands, because the step saved what it notes; and RTWP loads what the latest note says, because that note stands.
+-- stands, because the step saved what it notes, below the read-only part; and RTWP loads what the latest note says, because that note
+-- stands.
 use Prim.Native.Nat.{ℕ, _%_, _<_}
 use mathlib.Core.Path.{_≡_, _∙_}
 use mathlib.Core.Bool.{true, or-true}
@@ -16,10 +17,11 @@ use Rattle.machine.specs.Perform.{fetches, written}
 use Rattle.machine.specs.Operands.{register-at}
 use Rattle.machine.specs.Step.{Kind, was-reset, was-load, was-idle, was-level, ran, clocked, stepping, step}
 use Rattle.machine.proofs.Laws.{keeps-the-rest}
+use Rattle.machine.proofs.ReadOnly.{step-keeps-read-only}
 use Rattle.book.specs.Book.{Note, Book, Event, opened, returned, cleared, other, turn, note, step-accesses, event-of, event, moment}
-use Rattle.book_claim.specs.Claim.{save-places, Each, Avoided, In-workspace, Respected, Stands, Restored, Given-back, Kept}
+use Rattle.book_claim.specs.Claim.{save-places, Each, Avoided, In-workspace, Saved, Respected, Stands, Restored, Given-back, Kept}
 use Rattle.book_claim.proofs.Each.{each-map, each-zip}
-use Rattle.book_claim.proofs.Switch.{noted}
+use Rattle.book_claim.proofs.Switch.{noted, Standing}
 use Rattle.book_claim.proofs.Execute.{Taken, Meant}
 use Rattle.book_claim.proofs.Step.{Meaning, step-means, Sound}
 
@@ -36,7 +38,7 @@ pub record Good (m : List ℕ) (n : Note) : Type 0 where
   pub proper : Proper n
 
 -- the frame: what a step does not store into keeps its bytes
-module _ (word : ℕ) (m : Machine) (n : Note) (apart : disjoint (save-places n) (written (step-accesses word m)) ≡ true) where
+module _ (word : ℕ) (m : Machine) (n : Note) (apart : disjoint (save-places n) (written (m .state .rom) (step-accesses word m)) ≡ true) where
   word-kept :
       (a : ℕ) → ((i : ℕ) → covers i (touched Word a) ≡ true → covers i (save-places n) ≡ true)
       → loaded Word (step word m .machine .memory) a ≡ loaded Word (m .memory) a
@@ -46,7 +48,7 @@ module _ (word : ℕ) (m : Machine) (n : Note) (apart : disjoint (save-places n)
       let start : Machine = clocked (p .cycles) m in
       loaded-agree Word (step word m .machine .memory) (m .memory) a
       (λ i c. keeps-the-rest (p .levels) (stepping (p .levels) start) start i
-      (disjoint-covers (save-places n) (written (step-accesses word m)) i apart (within i c)))
+      (disjoint-covers (save-places n) (written (m .state .rom) (step-accesses word m)) i apart (within i c)))
 
   pub still-stands : Stands (m .memory) n → Stands (step word m .machine .memory) n
   unfolding save-places
@@ -82,11 +84,13 @@ Brought cleared m n = Unit
 Brought other m n = Unit
 
 module _ (word : ℕ) (m : Machine) (h : Sound m) where
-  new-note : (i : ℕ) → Stands (step word m .machine .memory) (noted m (step word m .machine) i) → Good (step word m .machine .memory) (note word m i)
+  new-note :
+      (i : ℕ) → Standing (step word m .machine) (noted m (step word m .machine) i)
+      → Each (λ p. p < m .state .rom) (save-places (note word m i)) → Good (step word m .machine .memory) (note word m i)
   unfolding note
-  new-note i s =
+  new-note i s below =
       record {
-        stands = s;
+        stands = s (rw (step-keeps-read-only word m) below);
         proper = record {
           wp = h .fit .words .wp;
           wp-even = h .form .even .wp;
@@ -98,18 +102,18 @@ module _ (word : ℕ) (m : Machine) (h : Sound m) where
 
   brought-by :
       (k : Kind) → Meaning k m (step word m .machine) (fetches (step-accesses word m))
-      → Brought (event-of word m k) m (step word m .machine)
-  unfolding Brought Meaning Meant event-of
-  brought-by was-reset d = tt
-  brought-by was-load d = new-note 0 d
-  brought-by was-idle d = tt
-  brought-by (was-level k) d = new-note 0 d
-  brought-by (ran Ordinary) d = tt
-  brought-by (ran Unassigned) d = tt
-  brought-by (ran Switched) d = new-note (fetches (step-accesses word m)) d
-  brought-by (ran Returned) d = d
+      → Saved (event-of word m k) (m .state .rom) → Brought (event-of word m k) m (step word m .machine)
+  unfolding Brought Meaning Meant Saved event-of
+  brought-by was-reset d below = tt
+  brought-by was-load d below = new-note 0 d below
+  brought-by was-idle d below = tt
+  brought-by (was-level k) d below = new-note 0 d below
+  brought-by (ran Ordinary) d below = tt
+  brought-by (ran Unassigned) d below = tt
+  brought-by (ran Switched) d below = new-note (fetches (step-accesses word m)) d below
+  brought-by (ran Returned) d below = d
 
-  brought : Brought (event word m) m (step word m .machine)
+  brought : Saved (event word m) (m .state .rom) → Brought (event word m) m (step word m .machine)
   unfolding event
   brought = brought-by (step word m .value) (step-means word m (h .fit))
 
@@ -136,6 +140,6 @@ pub step-kept :
     → Each (Good (step word m .machine .memory)) (turn (event word m) b) × Kept (moment word m b)
 unfolding moment
 step-kept word m b h g r =
-    let k = turned m (step word m .machine) (written (step-accesses word m)) (still-stands word m) (event word m) b
-    (brought word m h) (r .avoids) (r .in-place) g in
+    let k = turned m (step word m .machine) (written (m .state .rom) (step-accesses word m)) (still-stands word m) (event word m) b
+    (brought word m h (r .saved)) (r .avoids) (r .in-place) g in
     (k .0, record { stand = each-map (λ x e. e .stands) (turn (event word m) b) (k .0); given-back = k .1 })

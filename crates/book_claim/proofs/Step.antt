@@ -20,18 +20,17 @@ use Rattle.machine.proofs.Laws.{Form}
 use Rattle.machine.proofs.Flags.{step-form}
 use Rattle.machine.proofs.Loads.{registers-loads, set-loads, fetched-loads}
 use Rattle.book.specs.Book.{step-accesses}
-use Rattle.book_claim.specs.Claim.{Stands}
 use Rattle.book_claim.proofs.Steady.{Steady}
 use Rattle.book_claim.proofs.Does.{Fit, fit-kept, Judgement, Does, Movable, after-steady, then-done, does-if}
-use Rattle.book_claim.proofs.Switch.{noted, enter-saves}
+use Rattle.book_claim.proofs.Switch.{noted, Standing, enter-saves}
 use Rattle.book_claim.proofs.Execute.{Meant, meant-movable, executed}
 
 -- what a step of each kind has done
 unfoldable pub Meaning : Judgement Kind
 Meaning was-reset m n words = Unit
-Meaning was-load m n words = Stands (n .memory) (noted m n 0)
+Meaning was-load m n words = Standing n (noted m n 0)
 Meaning was-idle m n words = Unit
-Meaning (was-level k) m n words = Stands (n .memory) (noted m n 0)
+Meaning (was-level k) m n words = Standing n (noted m n 0)
 Meaning (ran d) m n words = Meant d m n words
 
 -- the same of a step that enters nothing

@@ -1,28 +1,30 @@
--- The context switch read back: its three stores lie at places apart, so R13, R14 and R15 at the new WP are the old WP, PC and
--- ST. What follows it in an entry or in XOP stores at most into R11.
+-- The context switch read back: its three stores lie at places apart, and below the read-only part none is dropped, so R13, R14 and R15
+-- at the new WP are the old WP, PC and ST. What follows it in an entry or in XOP stores at most into R11, dropped or not.
 use Prim.Native.Nat.{ℕ, suc, _+_, _*_, _/_, _%_, _<_, _≤_}
 use mathlib.Core.Path.{_≡_, refl, sym, _∙_}
 use mathlib.Core.Bool.{Bool, true, false}
 use mathlib.Core.List.{List}
 use native.Mathlib.Omega.{arith}
 use lib.Dec.{ltb}
-use borrow.Author.Tests.{ne-eqb, ltb-true, ltb-false}
+use borrow.Author.Tests.{ne-eqb, ltb-true, ltb-false, lt-leb}
 use Rattle.bits.specs.Bits.{put}
 use Rattle.memory.specs.declared.Width.the-variants.{Word}
-use Rattle.memory.specs.Memory.{Installed, loaded, stored, place, places, touched, covers, disjoint}
-use Rattle.memory.proofs.Laws.{loaded-frame, loaded-stored, stored-installed}
+use Rattle.memory.specs.Memory.{Installed, loaded, place, places, touched, covers, disjoint}
+use Rattle.memory.proofs.Laws.{loaded-frame, loaded-stored}
+use Rattle.psi.proofs.Cases.{either-way}
 use Rattle.isa.specs.declared.Operand.{Operand}
 use Rattle.alu.specs.Status.{extended}
 use Rattle.machine.specs.State.{Machine}
 use Rattle.machine.specs.Micro.{_>>_, registers, set, load, store}
-use Rattle.machine.specs.Perform.{perform, accesses, fetches, even}
+use Rattle.machine.specs.Perform.{dropped, received, perform, accesses, fetches, even}
 use Rattle.machine.specs.Operands.{register-at, set-register, operand}
 use Rattle.machine.specs.Groups.{set-status, switch, switch-by-operand, switch-by-number}
 use Rattle.machine.specs.Step.{enter}
 use Rattle.machine.proofs.Loads.{operand-loads}
 use Rattle.book.specs.Book.{Note}
-use Rattle.book_claim.specs.Claim.{Stands}
-use Rattle.book_claim.proofs.Does.{Judgement, Does, Movable, after-steady}
+use Rattle.book_claim.specs.Claim.{Each, save-places, Stands}
+use Rattle.book_claim.proofs.Each.{each-split}
+use Rattle.book_claim.proofs.Does.{Fit, fit-kept, Judgement, Does, Movable, after-steady}
 
 -- two words at places apart have no byte in common
 words-apart : (a b : ℕ) → (place Word a ≡ place Word b → ⊥) → disjoint (touched Word a) (touched Word b) ≡ true
@@ -64,72 +66,91 @@ noted m n words =
       st = m .state .st;
     }
 
--- the note stands
-abbrev pub Saved : {A : Type 0} → Judgement A
-Saved a m n words = Stands (n .memory) (noted m n words)
+-- a note stands, if its save words lie below the machine's read-only part
+abbrev pub Standing : Machine → Note → Type 0
+Standing n x = Each (λ p. p < n .state .rom) (save-places x) → Stands (n .memory) x
 
-pub saved-movable : {A : Type 0} → Movable {A = A} Saved
-saved-movable a l m n i j h s =
+-- the entry's note does
+abbrev pub Entered : {A : Type 0} → Judgement A
+Entered a m n words = Standing n (noted m n words)
+
+pub entered-movable : {A : Type 0} → Movable {A = A} Entered
+unfolding save-places
+entered-movable a l m n i j h d below =
+    let s = d below in
     record {
       wp = s .wp ∙ h .wp;
       pc = s .pc ∙ omega (arith, h .pc);
       st = s .st ∙ h .st;
     }
 
--- a register keeps its word where another is stored, and has the word that was stored into itself
+-- a store below the read-only part is not dropped
+not-dropped : (first a : ℕ) → Each (λ p. p < first) (touched Word a) → dropped first Word a ≡ false
+unfolding Each places touched dropped
+not-dropped first a below = lt-leb first (place Word a) (below .0)
+
+-- a register keeps its word where another is stored, dropped or not, and has the word that was stored into itself and not dropped
 register-kept :
-    (m : List ℕ) (wp i j x : ℕ) → i < 16 → j < 16 → (i ≡ j → ⊥)
-    → loaded Word (stored Word m (register-at wp j) x) (register-at wp i) ≡ loaded Word m (register-at wp i)
-register-kept m wp i j x h k d =
-    loaded-frame Word Word m (register-at wp i) (register-at wp j) x (registers-apart wp i j h k d)
+    (first : ℕ) (m : List ℕ) (wp i j x : ℕ) → i < 16 → j < 16 → (i ≡ j → ⊥)
+    → loaded Word (received first Word m (register-at wp j) x) (register-at wp i) ≡ loaded Word m (register-at wp i)
+unfolding received
+register-kept first m wp i j x h k d =
+    either-way (λ (n : List ℕ). loaded Word n (register-at wp i) ≡ loaded Word m (register-at wp i)) (dropped first Word (register-at wp j))
+    (λ _. refl) (λ _. loaded-frame Word Word m (register-at wp i) (register-at wp j) x (registers-apart wp i j h k d))
 
 register-stored :
-    (m : List ℕ) (wp i x : ℕ) → Installed m → x < 65536
-    → loaded Word (stored Word m (register-at wp i) x) (register-at wp i) ≡ x
-register-stored m wp i x h k = loaded-stored Word m (register-at wp i) x h ∙ omega arith
+    (first : ℕ) (m : List ℕ) (wp i x : ℕ) → Each (λ p. p < first) (touched Word (register-at wp i)) → Installed m → x < 65536
+    → loaded Word (received first Word m (register-at wp i) x) (register-at wp i) ≡ x
+unfolding received
+register-stored first m wp i x below h k =
+    rw (not-dropped first (register-at wp i) below) (loaded-stored Word m (register-at wp i) x h ∙ omega arith)
 
-pub switch-saves : (vector : ℕ) → Does Saved (switch vector)
-unfolding perform accesses fetches switch registers set load store set-register
-switch-saves vector v m h =
+pub switch-saves : (vector : ℕ) → Does Entered (switch vector)
+unfolding perform accesses fetches switch registers set load store set-register save-places
+switch-saves vector v m h below =
+    let first : ℕ = m .state .rom in
     let wp : ℕ = even (loaded Word (m .memory) vector) in
-    let m13 : List ℕ = stored Word (m .memory) (register-at wp 13) (m .state .wp) in
-    let m14 : List ℕ = stored Word m13 (register-at wp 14) (m .state .pc) in
-    let h13 : Installed m13 = stored-installed Word (m .memory) (register-at wp 13) (m .state .wp) (h .installed) in
-    let h14 : Installed m14 = stored-installed Word m13 (register-at wp 14) (m .state .pc) h13 in
+    let b13 = each-split _ (touched Word (register-at wp 13)) _ below in
+    let b14 = each-split _ (touched Word (register-at wp 14)) _ (b13 .1) in
+    let n13 : Machine = perform v (store Word (register-at wp 13) (m .state .wp)) m .machine in
+    let n14 : Machine = perform v (store Word (register-at wp 14) (m .state .pc)) n13 .machine in
+    let h13 : Fit n13 = fit-kept v (store Word (register-at wp 13) (m .state .wp)) m h in
+    let h14 : Fit n14 = fit-kept v (store Word (register-at wp 14) (m .state .pc)) n13 h13 in
     record {
       wp =
-          register-kept m14 wp 13 15 (m .state .st) (omega arith) (omega arith) (omega arith)
-          ∙ register-kept m13 wp 13 14 (m .state .pc) (omega arith) (omega arith) (omega arith)
-          ∙ register-stored (m .memory) wp 13 (m .state .wp) (h .installed) (h .words .wp);
+          register-kept first (n14 .memory) wp 13 15 (m .state .st) (omega arith) (omega arith) (omega arith)
+          ∙ register-kept first (n13 .memory) wp 13 14 (m .state .pc) (omega arith) (omega arith) (omega arith)
+          ∙ register-stored first (m .memory) wp 13 (m .state .wp) (b13 .0) (h .installed) (h .words .wp);
       pc =
-          register-kept m14 wp 14 15 (m .state .st) (omega arith) (omega arith) (omega arith)
-          ∙ register-stored m13 wp 14 (m .state .pc) h13 (h .words .pc)
+          register-kept first (n14 .memory) wp 14 15 (m .state .st) (omega arith) (omega arith) (omega arith)
+          ∙ register-stored first (n13 .memory) wp 14 (m .state .pc) (b14 .0) (h13 .installed) (h .words .pc)
           ∙ omega (arith, h .words .pc);
-      st = register-stored m14 wp 15 (m .state .st) h14 (h .words .st);
+      st = register-stored first (n14 .memory) wp 15 (m .state .st) (b14 .1) (h14 .installed) (h .words .st);
     }
 
 -- An entry fetches nothing, and changes neither WP nor memory after its context switch.
-pub enter-saves : (vector : ℕ) (f : ℕ → ℕ) → Does (λ u m n words. Stands (n .memory) (noted m n 0)) (enter vector f)
-unfolding perform accesses fetches enter switch set-status registers set load store set-register
+pub enter-saves : (vector : ℕ) (f : ℕ → ℕ) → Does (λ u m n words. Standing n (noted m n 0)) (enter vector f)
+unfolding perform accesses fetches enter switch set-status registers set load store set-register save-places
 enter-saves vector f v m h = switch-saves vector v m h
 
-pub blwp-saves : (o : Operand) → Does Saved (switch-by-operand o)
+pub blwp-saves : (o : Operand) → Does Entered (switch-by-operand o)
 unfolding switch-by-operand
-blwp-saves o = after-steady Saved saved-movable (operand Word o) switch (operand-loads _ Word o) switch-saves
+blwp-saves o = after-steady Entered entered-movable (operand Word o) switch (operand-loads _ Word o) switch-saves
 
--- XOP stores into the new R11 after its context switch.
-xop-saves : (vector a : ℕ) → Does Saved (switch vector >> (set-status (put extended true) >> set-register 11 a))
-unfolding perform accesses fetches switch set-status registers set load store set-register
-xop-saves vector a v m h =
-    let s = switch-saves vector v m h in
+-- XOP stores into the new R11 after its context switch, which may be dropped.
+xop-saves : (vector a : ℕ) → Does Entered (switch vector >> (set-status (put extended true) >> set-register 11 a))
+unfolding perform accesses fetches switch set-status registers set load store set-register save-places
+xop-saves vector a v m h below =
+    let s = switch-saves vector v m h below in
     let n : Machine = perform v (switch vector) m .machine in
+    let kept : (i : ℕ) → i < 16 → (i ≡ 11 → ⊥) → _ = λ i k d. register-kept (n .state .rom) (n .memory) (n .state .wp) i 11 a k (omega arith) d in
     record {
-      wp = register-kept (n .memory) (n .state .wp) 13 11 a (omega arith) (omega arith) (omega arith) ∙ s .wp;
-      pc = register-kept (n .memory) (n .state .wp) 14 11 a (omega arith) (omega arith) (omega arith) ∙ s .pc;
-      st = register-kept (n .memory) (n .state .wp) 15 11 a (omega arith) (omega arith) (omega arith) ∙ s .st;
+      wp = kept 13 (omega arith) (omega arith) ∙ s .wp;
+      pc = kept 14 (omega arith) (omega arith) ∙ s .pc;
+      st = kept 15 (omega arith) (omega arith) ∙ s .st;
     }
 
-pub xop-operand-saves : (o : Operand) (n : ℕ) → Does Saved (switch-by-number o n)
+pub xop-operand-saves : (o : Operand) (n : ℕ) → Does Entered (switch-by-number o n)
 unfolding switch-by-number
 xop-operand-saves o n =
-    after-steady Saved saved-movable (operand Word o) _ (operand-loads _ Word o) (λ a. xop-saves (64 + 4 * n) a)
+    after-steady Entered entered-movable (operand Word o) _ (operand-loads _ Word o) (λ a. xop-saves (64 + 4 * n) a)

@@ -9,4 +9,4 @@ use Rattle.call_claims.specs.Example as Example
 
 pub example-holds : Example.Example-holds
 unfolding Cases.every Perform.accesses Perform.fetches Perform.written Book.turn Book.step-accesses Book.note Book.event-of Book.event Book.moment Book.moments Book.book-after Book.call-moments Book.call-machine Book.all-moments Claim.calls Claim.Chained Claim.Each Example.flags-after
-example-holds = (refl, (refl, (refl, tt)), refl, refl, λ t. absurd (omega (arith, t .0 .0)))
+example-holds = (refl, (refl, (refl, tt)), refl, refl, refl, λ t. absurd (omega (arith, t .0 .0)))

@@ -5,3 +5,4 @@ pub mod Interrupts
 pub mod Runs
 pub mod Answers
 pub mod Words
+pub mod ReadOnly

@@ -4,3 +4,4 @@ pub mod Answers
 pub mod Runs
 pub mod Words
 pub mod Refresh
+pub mod ReadOnly

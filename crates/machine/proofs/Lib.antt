@@ -1,6 +1,7 @@
 pub mod Marked
 pub mod Told
 pub mod Selected
+pub mod Dropped
 pub mod Bind
 pub mod Laws
 pub mod ReadOnly

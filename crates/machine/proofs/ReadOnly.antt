@@ -5,17 +5,19 @@ use mathlib.Core.Bool.{Bool, true, false, true≢false}
 use mathlib.Core.List.{List, [], _∷_}
 use lib.ListN.{getD}
 use native.Mathlib.Omega.{arith}
-use borrow.Author.Tests.{leb-false}
+use borrow.Author.Tests.{leb-false, lt-leb}
 use Rattle.bits.specs.Bits.{if_then_else_}
 use Rattle.memory.specs.declared.Width.{Width}
 use Rattle.memory.specs.declared.Width.the-variants.{Byte, Word}
 use Rattle.memory.specs.Memory.{place, loaded, covers, touched}
-use Rattle.memory.proofs.Laws.{or-either, covers-append, touched-below}
+use Rattle.memory.proofs.Laws.{place-below, or-either, covers-append, touched-below}
 use Rattle.psi.specs.Cru as Cru
-use Rattle.machine.specs.State.{registers}
-use Rattle.machine.specs.Micro.{done, look, assign, fetch, read, write, sense, drive}
-use Rattle.machine.specs.Perform.{dropped, reached, perform, Access, was-fetched, was-read, was-written, was-sensed, was-driven, accesses, written, after-assign, after-fetch, after-read, after-write, after-sense, after-drive}
-use Rattle.machine.specs.Laws.{Keeps-read-only, Stores-below, Keeps-the-read-only-part}
+use Rattle.psi.specs.Pins.{parted}
+use Rattle.machine.specs.State.{Machine, registers}
+use Rattle.machine.specs.Micro.{done, look, assign, fetch, read, write, sense, drive, store}
+use Rattle.machine.specs.Perform.{dropped, received, reached, perform, Access, was-fetched, was-read, was-written, was-sensed, was-driven, accesses, written, after-assign, after-fetch, after-read, after-write, after-sense, after-drive}
+use Rattle.machine.specs.Laws.{Keeps-read-only, Stores-below, Keeps-the-read-only-part, Stores-or-drops, No-rom-drops-nothing, Unaltered}
+use Rattle.machine.specs.Step.{clocked, step}
 use Rattle.machine.proofs.Laws.{assigned-rom, keeps-the-rest}
 
 pub keeps-read-only : {A : Type 0} → Keeps-read-only A
@@ -64,3 +66,33 @@ keeps-the-read-only-part v p m i e h = by-test (covers i places) refl
     by-test : (b : Bool) → covers i places ≡ b → getD (perform v p m .machine .memory) i 0 ≡ getD (m .memory) i 0
     by-test true c = absurd (omega (arith, stores-below (m .state .rom) (accesses v p m) i e c))
     by-test false c = keeps-the-rest v p m i c
+
+pub stores-or-drops : Stores-or-drops
+unfolding received store perform
+stores-or-drops v w a x m = (λ d. rw d, λ d. rw d)
+
+pub no-rom-drops-nothing : No-rom-drops-nothing
+unfolding dropped received reached
+no-rom-drops-nothing first w m a x h =
+    let d = lt-leb first (place w a) (omega (arith, place-below w a)) in
+    (d, rw d, rw d)
+
+-- A step is one microprogram from a machine whose clock has advanced, and the clock changes neither the read-only address nor a byte.
+pub step-keeps-read-only : (word : ℕ) (m : Machine) → step word m .machine .state .rom ≡ m .state .rom
+unfolding step
+step-keeps-read-only word m = keeps-read-only _ _ (clocked (parted word .cycles) m)
+
+pub step-unaltered : (word : ℕ) (m : Machine) → m .state .rom % 2 ≡ 0 → Unaltered m (step word m .machine)
+unfolding step
+step-unaltered word m e =
+    record {
+      address = step-keeps-read-only word m;
+      part = λ i h. keeps-the-read-only-part _ _ (clocked (parted word .cycles) m) i e h;
+    }
+
+pub unaltered-then : (l m n : Machine) → Unaltered l m → Unaltered m n → Unaltered l n
+unaltered-then l m n x y =
+    record {
+      address = y .address ∙ x .address;
+      part = λ i h. y .part i (rw (x .address) h) ∙ x .part i h;
+    }

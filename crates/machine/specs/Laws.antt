@@ -4,13 +4,14 @@ use mathlib.Core.Path.{_≡_}
 use mathlib.Core.Bool.{true, false}
 use mathlib.Core.List.{List}
 use lib.ListN.{length, getD}
-use Rattle.memory.specs.Memory.{Bytes, covers}
+use Rattle.memory.specs.declared.Width.{Width}
+use Rattle.memory.specs.Memory.{size, Bytes, stored, touched, covers}
 use Rattle.psi.specs.Formed as Formed
 use Rattle.psi.specs.Kept.{Fits16}
 use Rattle.machine.specs.declared.State.{State}
-use Rattle.machine.specs.State.{Machine}
-use Rattle.machine.specs.Micro.{Micro}
-use Rattle.machine.specs.Perform.{perform, Access, accesses, written}
+use Rattle.machine.specs.State.{Machine, at}
+use Rattle.machine.specs.Micro.{Micro, store}
+use Rattle.machine.specs.Perform.{performed, addressed, dropped, received, reached, perform, Access, accesses, written}
 
 -- A byte that is in no store of a microprogram keeps its value; a dropped store has none (Q-7).
 abbrev pub Keeps-the-rest : Type 0 → Type 0
@@ -35,6 +36,26 @@ Keeps-the-read-only-part A =
     → m .state .rom % 2 ≡ 0
     → m .state .rom ≤ i
     → getD (perform v p m .machine .memory) i 0 ≡ getD (m .memory) i 0
+
+-- Q-7: a store is dropped whole or done whole, and the PSI sees its address either way.
+abbrev pub Stores-or-drops : Type 0
+Stores-or-drops =
+    (v : ℕ) (w : Width) (a x : ℕ) (m : Machine)
+    → (dropped (m .state .rom) w a ≡ true → perform v (store w a x) m ≡ performed tt (at (addressed a (m .state)) (m .memory)))
+    × (dropped (m .state .rom) w a ≡ false
+    → perform v (store w a x) m ≡ performed tt (at (addressed a (m .state)) (stored w (m .memory) a x)))
+
+-- Q-7: a machine without a read-only part drops nothing: there all is as it was before that request.
+abbrev pub No-rom-drops-nothing : Type 0
+No-rom-drops-nothing =
+    (first : ℕ) (w : Width) (m : List ℕ) (a x : ℕ)
+    → size ≤ first
+    → (dropped first w a ≡ false) × (received first w m a x ≡ stored w m a x) × (reached first w a ≡ touched w a)
+
+-- Q-7: a machine n has m's read-only address, and from there on m's bytes
+pub record Unaltered (m n : Machine) : Type 0 where
+  pub address : n .state .rom ≡ m .state .rom
+  pub part : (i : ℕ) → m .state .rom ≤ i → getD (n .memory) i 0 ≡ getD (m .memory) i 0
 
 -- The memory's length never changes.
 abbrev pub Keeps-the-length : Type 0 → Type 0

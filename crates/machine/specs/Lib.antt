@@ -17,3 +17,4 @@ pub mod Cases
 pub mod Marked
 pub mod Told
 pub mod Selected
+pub mod Dropped
