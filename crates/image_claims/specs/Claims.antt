@@ -21,7 +21,8 @@ Reads-what-was-written =
     → read (write s m buffer .image) other
     ≡ record { answer = record { number = 0; block = 0; state = s }; memory = m }
 
--- an image with another block 0: edition 2 and no read-only part, and the check word made anew
+-- an image with another block 0: edition 2 and no read-only part, and the check word made anew. Field n of a block begins at byte 2n + 2:
+-- the edition at 4.
 unfoldable pub renewed : List ℕ → List ℕ
 renewed img =
     Image.checked (take Image.check-at (put-word (put-word (Image.block-of img 0) 4 Image.edition) (2 * Image.rom-field + 2) no-rom))
