@@ -13,8 +13,8 @@ module tms_replay
   integer(c_size_t), parameter :: tms_memory_size = 16384, tms_image_size = 17408, tms_line_size = 48
   integer, parameter :: tms_state_words = 13, tms_counts = 4, tms_line_answer = 2
 
-  ! The numbers of a state, from 0 to 65535 each; flags are at most 2 (1: idle, 2: the next boundary takes no sample). The
-  ! last is the first read-only address, even, at most tms_no_rom, which means none.
+  ! The numbers of a state, from 0 to 65535 each but for the last; flags are at most 2 (1: idle, 2: the next boundary takes
+  ! no sample). The last is where the read-only part begins, an even number of at most tms_no_rom, which means none.
   integer, parameter :: tms_wp = 1, tms_pc = 2, tms_st = 3, tms_flags = 4, tms_mask = 5, tms_direction = 6, &
       tms_latch = 7, tms_load = 8, tms_decrementer = 9, tms_reading = 10, tms_phase = 11, tms_pending = 12, &
       tms_rom = 13

@@ -50,8 +50,8 @@ enum {
   TMS_READING,     /* the clock's read register */
   TMS_PHASE,       /* cycles since the last tick or the last write of a load bit, 0 to 63 */
   TMS_PENDING,     /* 1: the clock's request is pending */
-  TMS_ROM          /* the first read-only address, even, 0 to 16384: a store whose address modulo
-                      16384 is at or above it is dropped */
+  TMS_ROM          /* where the read-only part begins, an even number of at most 16384: a store
+                      whose address modulo 16384 is not below it is dropped */
 };
 
 /* The first read-only address of a machine without a read-only part. A state of zeros is another
@@ -89,7 +89,7 @@ enum {
 enum {
   TMS_ACCEPTED = 0,
   TMS_MEMORY = 1,       /* the memory has not 16384 bytes */
-  TMS_STATE = 2,        /* the state is not well formed, or one of its numbers does not fit 16 bits */
+  TMS_STATE = 2,        /* the state is not well formed, or one of its numbers does not fit its field */
   TMS_RECORDS = 3,      /* more steps asked than there are records */
   TMS_IMAGE = 5,        /* the image or its buffer has not 17408 bytes */
   TMS_BLOCK_CHECK = 6,  /* a block's check is wrong */
@@ -112,9 +112,10 @@ uint16_t tms_run(uint8_t *memory, size_t memory_len, uint32_t state[TMS_STATE_WO
                  const uint32_t *records, size_t records_len, size_t steps, uint16_t stop,
                  uint64_t counts[TMS_COUNTS]);
 
-/* Reads an image of edition 1 or 2 into `memory` and `state`; edition 1 has no read-only part. Refusals 6 and 7 leave the number of the lowest bad
-   block in `block`, all other answers 0. A refusal leaves the blank state in `state`, and the
-   memory as it was. Answers 1, 5, then 6 and 7 block by block, 8, 9, 0. */
+/* Reads an image of edition 1 or 2 into `memory` and `state`; edition 1 has no read-only part.
+   Refusals 6 and 7 leave the number of the lowest bad block in `block`, all other answers 0. A
+   refusal leaves the blank state in `state`, and the memory as it was. Answers 1, 5, then 6 and 7
+   block by block, 8, 9, 0. */
 uint16_t tms_read_image(const uint8_t *image, size_t image_len, uint8_t *memory, size_t memory_len,
                         uint32_t state[TMS_STATE_WORDS], uint32_t *block);
 

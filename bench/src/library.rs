@@ -58,7 +58,7 @@ pub fn words(state: &State) -> Words {
 /// The state of thirteen words, of which the first twelve fit 16 bits.
 pub fn state(words: &Words) -> State {
     let read_only = words[12];
-    let words = words.map(|w| u16::try_from(w).unwrap());
+    let words: [u16; 12] = std::array::from_fn(|i| u16::try_from(words[i]).unwrap());
     State {
         wp: words[0],
         pc: words[1],

@@ -513,7 +513,7 @@ fn the_link_of_an_xop() {
         assert_eq!((b.word(0x2016), b.word(0x201A)), (r11, r13));
         assert_eq!((b.state.wp, b.state.pc, b.state.st), (0x2000, 0x0600, X));
     }
-    // R11 above the end of memory, R13 below it, at 0002h: the other way round.
+    // R11 is the last word and read-only, R13 comes round to 0002h: the other way round.
     let mut b = bench(0x3FFE, &[0x2CC5]);
     b.put(0x004C, 0x3FE8);
     b.put(0x004E, 0x0600);

@@ -56,7 +56,8 @@ In-workspace returned (n ∷ b) wp = wp % size ≡ n .workspace % size
 In-workspace cleared b wp = Unit
 In-workspace other b wp = Unit
 
--- The save words of an entry lie below the read-only part (Q-7), judged at the step that opens it; what reset saves is no entry's.
+-- Q-7: each byte of the save words of an entry that a step opens is below the read-only address, so that none of them is dropped. What
+-- reset saves is no entry's.
 unfoldable pub Saved : Event → ℕ → Type 0
 Saved (opened n) first = Each (λ p. p < first) (save-places n)
 Saved returned first = Unit
@@ -110,7 +111,7 @@ Calls-kept m b (x ∷ xs) =
     × Calls-kept (call-machine m (x .call)) (book-after b (call-moments m b (x .call))) xs
 
 -- Open entries keep their save words, and RTWP gives back what was kept: any first state and memory, no entry open; any
--- list of calls. `Words` is the type of the code: fields of 16 bits. (That memory has bytes is not needed.)
+-- list of calls. `Words` is the type of the code: fields of 16 bits, all but the read-only address. (That memory has bytes is not needed.)
 abbrev pub Open-entries-are-kept : Type 0
 Open-entries-are-kept =
     (s : State) (m : List ℕ) (seen : List Seen)

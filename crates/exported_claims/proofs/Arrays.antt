@@ -55,7 +55,7 @@ pub words-of-their-state : Words-of-their-state
 unfolding state-of held Image.fields
 words-of-their-state w h f = rw f (listed-all w 13 0 h)
 
--- the state of an array has fields of 16 bits
+-- the state of an array has fields of 16 bits, all but the read-only address
 pub state-words : (w : List ℕ) → Words (state-of w)
 unfolding state-of held
 state-words w = by-test (fits w) refl

@@ -142,6 +142,7 @@ fn header(state: State) -> [u8; BLOCK_SIZE]
     put_field(&mut block, PSI_FIELD + 5, psi.reading);
     put_field(&mut block, PSI_FIELD + 6, psi.phase);
     put_field(&mut block, PSI_FIELD + 7, psi.pending);
+    // A well-formed state's fits the word; any other is not written.
     put_field(&mut block, ROM_FIELD, (state.rom % 65536) as u16);
     block
 }

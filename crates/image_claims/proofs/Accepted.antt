@@ -47,6 +47,7 @@ right img i h =
 -- block 0's content in order, in either edition
 pub record Sound (img : List ℕ) : Type 0 where
   pub format : Image.field-of img 0 ≡ Image.format
+  pub edition : known-edition (Image.field-of img 1) ≡ true
   pub formed : well-formed (Image.state-of img) ≡ true
   pub filler : Image.zeros (Image.filler-of img) ≡ true
 
@@ -62,6 +63,7 @@ sound img h =
     let rest = conjuncts (well-formed (Image.state-of img)) (Image.zeros (Image.filler-of img)) (two .0) in
     record {
       format = eqb-true (Image.field-of img 0) Image.format (words .0);
+      edition = words .1;
       formed = rest .0;
       filler = rest .1;
     }

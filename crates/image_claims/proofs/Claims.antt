@@ -15,7 +15,7 @@ use Rattle.machine.specs.State.{no-rom, well-formed}
 use Rattle.image_blocks.specs.Image as Image
 use Rattle.image_blocks.specs.Blocks.{put-word}
 use Rattle.image.specs.Calls.{read, read-fault, first-fault, write, write-fault}
-use Rattle.image_claims.specs.Claims.{Reads-what-was-written, renewed, Writes, Writes-what-was-read, Renews-the-first-edition, Accepted-exactly, Sound-block, Names-the-lowest}
+use Rattle.image_claims.specs.Claims.{Reads-what-was-written, renewed, Writes, Writes-what-was-read, Renews-the-first-edition, Accepted-editions, Accepted-exactly, Sound-block, Names-the-lowest}
 use Rattle.image_blocks.proofs.Parts.{memory-length}
 use Rattle.image_claims.proofs.Written.{read-written}
 use Rattle.image.proofs.Accepted.{Accepted, accepted}
@@ -40,6 +40,9 @@ accepted-exactly img m = by-test (eqb (read-fault img m .number) 0) refl
     by-test : (t : Bool) → eqb (read-fault img m .number) 0 ≡ t → read img m .answer .number ≡ read-fault img m .number
     by-test true e = rw e (sym (eqb-true (read-fault img m .number) 0 e))
     by-test false e = rw e
+
+pub accepted-editions : Accepted-editions
+accepted-editions img m h = sound img (accepted img m (sym (accepted-exactly img m) ∙ h) .content-right) .edition
 
 -- an accepted read gives the state and the memory that the image holds
 reads :

@@ -10,7 +10,7 @@ use Rattle.machine.specs.State.{no-rom, well-formed}
 use Rattle.machine.specs.Laws.{Words}
 use Rattle.image_blocks.specs.Image as Image
 use Rattle.image_blocks.specs.Blocks.{put-word}
-use Rattle.image.specs.Calls.{read, write, read-fault}
+use Rattle.image.specs.Calls.{known-edition, read, write, read-fault}
 
 -- Reading a written image gives back the state and the memory.
 abbrev pub Reads-what-was-written : Type 0
@@ -48,6 +48,10 @@ Renews-the-first-edition =
     (img m : List ℕ)
     → Bytes img → read img m .answer .number ≡ 0 → Image.field-of img 1 ≡ Image.first-edition
     → Writes img m (renewed img)
+
+-- Every accepted image is of the one edition or of the other.
+abbrev pub Accepted-editions : Type 0
+Accepted-editions = (img m : List ℕ) → read img m .answer .number ≡ 0 → known-edition (Image.field-of img 1) ≡ true
 
 -- A read is accepted exactly if the table names no refusal.
 abbrev pub Accepted-exactly : Type 0

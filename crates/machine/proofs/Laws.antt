@@ -45,7 +45,7 @@ received-length first w m a x = received-keeps (λ n. length n ≡ length m) fir
 received-bytes : (first : ℕ) (w : Width) (m : List ℕ) (a x : ℕ) → Bytes m → Bytes (received first w m a x)
 received-bytes first w m a x h = received-keeps Bytes first w m a x h (stored-bytes w m a x h)
 
-pub received-frame :
+received-frame :
     (first : ℕ) (w : Width) (m : List ℕ) (a x i : ℕ)
     → covers i (reached first w a) ≡ false
     → getD (received first w m a x) i 0 ≡ getD m i 0

@@ -1,5 +1,5 @@
 -- Q-7: no access changes the read-only address, and a store that is not dropped begins below it, so at an even address it ends below it.
-use Prim.Native.Nat.{ℕ, _%_, _+_, _<_, _≤_}
+use Prim.Native.Nat.{ℕ, _%_, _<_}
 use mathlib.Core.Path.{_≡_, refl, sym, _∙_}
 use mathlib.Core.Bool.{Bool, true, false, true≢false}
 use mathlib.Core.List.{List, [], _∷_}
@@ -15,7 +15,7 @@ use Rattle.psi.specs.Cru as Cru
 use Rattle.psi.specs.Pins.{parted}
 use Rattle.machine.specs.State.{Machine, registers}
 use Rattle.machine.specs.Micro.{done, look, assign, fetch, read, write, sense, drive, store}
-use Rattle.machine.specs.Perform.{dropped, received, reached, perform, Access, was-fetched, was-read, was-written, was-sensed, was-driven, accesses, written, after-assign, after-fetch, after-read, after-write, after-sense, after-drive}
+use Rattle.machine.specs.Perform.{dropped, received, reached, perform, was-fetched, was-read, was-written, was-sensed, was-driven, accesses, written, after-assign, after-fetch, after-read, after-write, after-sense, after-drive}
 use Rattle.machine.specs.Laws.{Keeps-read-only, Stores-below, Keeps-the-read-only-part, Stores-or-drops, No-rom-drops-nothing, Unaltered}
 use Rattle.machine.specs.Step.{clocked, step}
 use Rattle.machine.proofs.Laws.{assigned-rom, keeps-the-rest}

@@ -35,7 +35,7 @@ abbrev movb : ℕ
 movb = 0xD801
 
 -- entries to a workspace at 0200h, so that the save words are at 021Ah, 021Ch and 021Eh, and PC 0400h: by request n, through this vector,
--- and by BLWP and XOP as at 0100h; the mask or ST after them, and what is stored
+-- with the mask 0 after it, or by BLWP and XOP at 0100h, with this ST after it; and what is stored
 abbrev entered : ℕ → ℕ → ℕ → StepAnswer → List Poke → Case
 entered first n vector a after =
     replayed (state first 0x300 0x100 15 0 (enabled (2 ^ n))) (poked (word vector 0x200 ∷ word (vector + 2) 0x400 ∷ []) zeros)

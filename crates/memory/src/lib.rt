@@ -36,7 +36,7 @@ pub fn word(high: u8, low: u8) -> u16
     wide(high) * 256 + wide(low)
 }
 
-// The first byte of an access of this width at this address.
+// The first byte of an access of this width at this address. (Load and store, which know their width in each arm, work it out there.)
 pub fn place(width: Width, address: u16) -> u16
     ensures { λ r. ⌜ r ≡ Memory.place width address ⌝ }
 {

@@ -23,7 +23,8 @@ Starts-of-files =
     (image pins after : List ℕ)
     → replay (take (Image.image-size + 1) image) (take (4 * (1 + Pins.most)) pins) after ≡ replay image pins after
 
--- Document 01's example: WP 0300h, PC 0100h, ST 0, blank PSI, flags 0, nothing read-only; P1's word, then 0000h at 0100h, 7FFFh at 0302h, 0001h at 0304h.
+-- Document 01's example: WP 0300h, PC 0100h, ST 0, blank PSI, flags 0, nothing read-only; P1's word, then 0000h at 0100h, 7FFFh at 0302h,
+-- 0001h at 0304h.
 abbrev pub start : State
 start = record { wp = 0x0300; pc = 0x0100; st = 0; flags = 0; psi = Own.blank; rom = no-rom }
 

@@ -4,9 +4,9 @@ use super::states::CLOCK_NUMBERS;
 use machine::State;
 use psi::Psi;
 
-// How many ways there are to spoil a state: those that leave the read-only address, with those that leave every number fit for an image's
+// How many ways there are to spoil a state: in the first ones the read-only address stays, up to the second number it still fits an image's
 // word, and all.
-pub const ROM_LEFT: u16 = 10;
+pub const ROM_STAYS: u16 = 10;
 
 pub const WORD_WAYS: u16 = 12;
 
@@ -38,7 +38,7 @@ fn spoiled_psi(seed: &mut u32, psi: Psi, way: u16) -> Psi {
 // A read-only address that no state has: an odd one, one that is too large, or one that is too large with a low half that would do.
 fn spoiled_rom(seed: &mut u32, way: u16) -> u32 {
     match way {
-        ROM_LEFT => (2 * below(seed, 8192) + 1) as u32,
+        10 => (2 * below(seed, 8192) + 1) as u32,
         11 => (16385 + below(seed, 49151)) as u32,
         _ => {
             let high = 1 + below(seed, 65535) as u32;
@@ -50,7 +50,7 @@ fn spoiled_rom(seed: &mut u32, way: u16) -> u32 {
 // A state that is not well formed, in one of the ways.
 pub fn spoiled(seed: &mut u32, state: State, way: u16) -> State {
     let mut s = state;
-    if ROM_LEFT <= way {
+    if ROM_STAYS <= way {
         s.rom = spoiled_rom(seed, way);
         return s;
     }

@@ -240,7 +240,7 @@ fn damage_state(image: &mut [u8], seed: &mut u32, state: State, kind: u16, editi
     requires { ⌜ length (now image) ≡ Image.image-size ⌝ }
 {
     let bad = spoiled::spoiled(seed, state, kind);
-    if kind < spoiled::ROM_LEFT {
+    if kind < spoiled::ROM_STAYS {
         put_state(image, bad, edition);
     } else {
         put_rom(image, bad.rom);

@@ -114,7 +114,7 @@ fn put_unwritten(bytes: &[u8], image: &mut [u8], state: State, sum: u32) -> u32
 }
 
 // A state with a read-only address.
-fn any_rom(seed: &mut u32) -> State {
+fn read_only_state(seed: &mut u32) -> State {
     let flags = below(seed, 4);
     let mut state = states::state(seed, flags);
     state.rom = roms::plain(seed);
@@ -127,7 +127,7 @@ fn prepare(bytes: &mut [u8], image: &mut [u8], seed: &mut u32, case: Case) -> u3
     requires { ⌜ length (now image) ≡ Image.image-size ⌝ }
 {
     seeds::fill(bytes, seed);
-    let state = any_rom(seed);
+    let state = read_only_state(seed);
     let written = write(bytes, image, seed, state);
     let sum = put_unwritten(bytes, image, state, written);
     damage::put_edition(image, case.edition);

@@ -215,7 +215,7 @@ fn call(
     if seeds::once_in(seed, 8) {
         return followed(
             course,
-            run_refused(bytes, seed, state, records, spoiled::ROM_LEFT),
+            run_refused(bytes, seed, state, records, spoiled::ROM_STAYS),
         );
     }
     let plan = next_plan(seed, state.pc);

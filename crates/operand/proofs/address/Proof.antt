@@ -1,7 +1,7 @@
 -- Each mode's test picks the same branch in the definition, whose microprogram is that of the calls made: the register's word for two of
 -- them, and for *Rn+ that word plus the operand's bytes stored back.
 use Rattle.machine.proofs.Bind.{perform-bind, perform-done, perform-registers}
-use Rattle.machine.specs.Operands.{indexed, stepped, operand}
+use Rattle.machine.specs.Operands.{stepped, operand}
 use borrow.Author.Tests.{eq-eqb, ne-eqb}
 use borrow.Author.Needs.{needs}
 use Rattle.operand.proofs.address.Statement.{statement}
