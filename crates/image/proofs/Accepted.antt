@@ -13,36 +13,42 @@ use Rattle.machine.specs.State.{well-formed}
 use Rattle.memory.specs.Memory.{size}
 use Rattle.image_blocks.specs.Image as Image
 use Rattle.image.specs.declared.Fault.{Fault}
-use Rattle.image.specs.Calls.{fault, first-fault, content-fault, read-fault, write-fault}
+use Rattle.image.specs.Calls.{fault, first-fault, content-fault, image-fault, read-fault, write-fault}
 
 -- a test whose refusal would show was passed, and the tests after it were
 pub passed : {A : Type 0} (number : A → ℕ) (b : Bool) (x y : A) → (number x ≡ 0 → b ≡ true) → number (if not b then x else y) ≡ 0 → (b ≡ true) × (number y ≡ 0)
 passed number true x y c h = (refl, h)
 passed number false x y c h = absurd (true≢false (sym (c h)))
 
-pub record Accepted (img m : List ℕ) : Type 0 where
-  pub memory-sized : length m ≡ size
+pub record Sound (img : List ℕ) : Type 0 where
   pub image-sized : length img ≡ Image.image-size
   pub blocks-right : first-fault img Image.block-count 0 .number ≡ 0
   pub content-right : content-fault img ≡ 0
 
-pub accepted : (img m : List ℕ) → read-fault img m .number ≡ 0 → Accepted img m
-unfolding read-fault
-accepted img m h =
+pub sound : (img : List ℕ) → image-fault img .number ≡ 0 → Sound img
+unfolding image-fault
+sound img h =
     let number : Fault → ℕ = λ f. f .number in
     let first : Fault = first-fault img Image.block-count 0 in
     let last : Fault = fault (content-fault img) in
     let blocks : Fault = if not (eqb (first .number) 0) then first else last in
-    let sized : Fault = if not (eqb (length img) Image.image-size) then fault 5 else blocks in
-    let one = passed number (eqb (length m) size) (fault 1) sized (λ e. absurd (omega arith)) h in
-    let two = passed number (eqb (length img) Image.image-size) (fault 5) blocks (λ e. absurd (omega arith)) (one .1) in
-    let three = passed number (eqb (first .number) 0) first last (eq-eqb (first .number) 0) (two .1) in
+    let one = passed number (eqb (length img) Image.image-size) (fault 5) blocks (λ e. absurd (omega arith)) h in
+    let two = passed number (eqb (first .number) 0) first last (eq-eqb (first .number) 0) (one .1) in
     record {
-      memory-sized = eqb-true (length m) size (one .0);
-      image-sized = eqb-true (length img) Image.image-size (two .0);
-      blocks-right = eqb-true (first .number) 0 (three .0);
-      content-right = three .1;
+      image-sized = eqb-true (length img) Image.image-size (one .0);
+      blocks-right = eqb-true (first .number) 0 (two .0);
+      content-right = two .1;
     }
+
+pub record Accepted (img m : List ℕ) : Type 0 where
+  pub memory-sized : length m ≡ size
+  pub image-right : Sound img
+
+pub accepted : (img m : List ℕ) → read-fault img m .number ≡ 0 → Accepted img m
+unfolding read-fault
+accepted img m h =
+    let one = passed (λ (f : Fault). f .number) (eqb (length m) size) (fault 1) (image-fault img) (λ e. absurd (omega arith)) h in
+    record { memory-sized = eqb-true (length m) size (one .0); image-right = sound img (one .1) }
 
 pub record Writable (s : State) (m img : List ℕ) : Type 0 where
   pub memory-sized : length m ≡ size

@@ -35,13 +35,16 @@ content-fault img =
     else if not (well-formed (Image.state-of img) && Image.zeros (Image.filler-of img)) then 9
     else 0
 
--- Reading: 1 memory's size, 5 the image's, 6 and 7 block by block, 8 format word or edition, 9 fields or filler.
-unfoldable pub read-fault : List ℕ → List ℕ → Fault
-read-fault img m =
-    if not (eqb (length m) size) then fault 1
-    else if not (eqb (length img) Image.image-size) then fault 5
+-- An image by itself: 5 its size, 6 and 7 block by block, 8 format word or edition, 9 fields or filler.
+unfoldable pub image-fault : List ℕ → Fault
+image-fault img =
+    if not (eqb (length img) Image.image-size) then fault 5
     else if not (eqb (first-fault img Image.block-count 0 .number) 0) then first-fault img Image.block-count 0
     else fault (content-fault img)
+
+-- Reading: 1 memory's size, then what the image itself calls for.
+unfoldable pub read-fault : List ℕ → List ℕ → Fault
+read-fault img m = if not (eqb (length m) size) then fault 1 else image-fault img
 
 pub record ReadResult : Type 0 where
   pub answer : ReadAnswer

@@ -87,16 +87,10 @@ fn content_fault(image: &[u8]) -> u16
     0
 }
 
-// The refusal that reading this image into this memory calls for.
-fn read_fault(image: &[u8], bytes: &[u8]) -> Fault
-    ensures { λ r. ⌜ r ≡ Calls.read-fault (now (image .entry)) (now (bytes .entry)) ⌝ }
+// The refusal that an image by itself calls for.
+pub fn image_fault(image: &[u8]) -> Fault
+    ensures { λ r. ⌜ r ≡ Calls.image-fault (now (image .entry)) ⌝ }
 {
-    if bytes.len() != memory::SIZE {
-        return Fault {
-            number: 1,
-            block: 0,
-        };
-    }
     if image.len() != image_blocks::IMAGE_SIZE {
         return Fault {
             number: 5,
@@ -111,6 +105,19 @@ fn read_fault(image: &[u8], bytes: &[u8]) -> Fault
         number: content_fault(image),
         block: 0,
     }
+}
+
+// The refusal that reading this image into this memory calls for.
+fn read_fault(image: &[u8], bytes: &[u8]) -> Fault
+    ensures { λ r. ⌜ r ≡ Calls.read-fault (now (image .entry)) (now (bytes .entry)) ⌝ }
+{
+    if bytes.len() != memory::SIZE {
+        return Fault {
+            number: 1,
+            block: 0,
+        };
+    }
+    image_fault(image)
 }
 
 // Fills memory from the blocks that carry it.

@@ -245,7 +245,7 @@ fn is_first(image: &[u8]) -> bool
 }
 
 // The first read-only address: edition 1 has none.
-fn rom_of(image: &[u8]) -> u32
+pub fn rom_of(image: &[u8]) -> u32
     requires { ⌜ length (now image) ≡ Image.image-size ⌝ }
     ensures { λ r. ⌜ r ≡ Image.rom-of (now (image .entry)) ⌝ }
 {

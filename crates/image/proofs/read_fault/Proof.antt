@@ -11,30 +11,7 @@ returns c = rw (ne-eqb _ _ (c .if1 .taken))
 
 returns-2 : tie.Need-returns-2
 unfolding read-fault
-returns-2 c = rw (eq-eqb _ _ (c .before .if1 .left), ne-eqb _ _ (c .if2 .taken))
-
-returns-3 : tie.Need-returns-3
-unfolding read-fault
-returns-3 c =
-    rw (
-      eq-eqb _ _ (c .before .before .before .before .if1 .left),
-      eq-eqb _ _ (c .before .before .before .if2 .left),
-      ← c .before .before .first-fault .ensures,
-      ne-eqb _ _ (c .if3 .taken),
-    )
-
-returns-4 : tie.Need-returns-4
-unfolding read-fault
-returns-4 c =
-    rw (
-      eq-eqb _ _ (c .before .before .before .before .before .if1 .left),
-      eq-eqb _ _ (c .before .before .before .before .if2 .left),
-      ← c .before .before .before .first-fault .ensures,
-      eq-eqb _ _ (c .before .if3 .left),
-      ← c .content-fault .ensures,
-    )
+returns-2 c = rw (eq-eqb _ _ (c .before .if1 .left)) (c .image-fault .ensures)
 
 pub read-fault-spec : {M : Type 1} → statement M
-read-fault-spec =
-    tie.close
-    (tie.spec returns returns-2 (λ c κs. search needs) returns-3 (λ c κs. search needs) returns-4)
+read-fault-spec = tie.close (tie.spec returns (λ c κs. search needs) returns-2)

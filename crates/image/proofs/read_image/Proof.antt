@@ -21,13 +21,13 @@ fill-memory-requires c κs =
     let f = c .before .before .before in
     let a = f .before .before .before .before .args in
     let known = accepted (a .image .now) (a .bytes .now) (ap (λ (f : Fault). f .number) (sym (f .read-fault .ensures)) ∙ c .before .if1 .left) in
-    (known .image-sized, known .memory-sized)
+    (known .image-right .image-sized, known .memory-sized)
 
 state-of-requires : tie.Need-state-of-requires
 state-of-requires c κs =
     let f = c .before .before .before .before .before .before in
     let a = f .before .before .before .before .args in
-    accepted (a .image .now) (a .bytes .now) (ap (λ (f : Fault). f .number) (sym (f .read-fault .ensures)) ∙ c .before .before .before .before .if1 .left) .image-sized
+    accepted (a .image .now) (a .bytes .now) (ap (λ (f : Fault). f .number) (sym (f .read-fault .ensures)) ∙ c .before .before .before .before .if1 .left) .image-right .image-sized
 
 returns-2 : tie.Need-returns-2
 unfolding read
