@@ -1,0 +1,82 @@
+-- What is claimed of comparing images (document 02, Q-8).
+use Prim.Native.Nat.{ℕ, _/_, _≤_, _<_}
+use mathlib.Core.Path.{_≡_}
+use mathlib.Core.Logic.{_↔_}
+use mathlib.Core.Bool.{true, not}
+use mathlib.Core.List.{List}
+use lib.ListN.{length, getD, replicate}
+use lib.Dec.{eqb}
+use Rattle.bits.specs.Bits.{if_then_else_, bit}
+use Rattle.memory.specs.Memory.{size}
+use Rattle.differing_runs.specs.Runs.{Stretch, listed}
+use Rattle.image_blocks.specs.Image as Image
+use Rattle.image.specs.Calls.{image-fault, read}
+use Rattle.comparison.specs.Compare.{Compared, field, runs, compare}
+
+-- A refusal is reading's: its number and its block, of the first image that reading refuses.
+pub record As-reading (a b m : List ℕ) : Type 0 where
+  pub first :
+      (read a m .answer .number ≡ 0 → ⊥)
+      → (compare a b .answer .number ≡ read a m .answer .number) × (compare a b .answer .image ≡ 1) × (compare a b .answer .block ≡ read a m .answer .block)
+  pub second :
+      read a m .answer .number ≡ 0 → (read b m .answer .number ≡ 0 → ⊥)
+      → (compare a b .answer .number ≡ read b m .answer .number) × (compare a b .answer .image ≡ 2) × (compare a b .answer .block ≡ read b m .answer .block)
+  pub neither :
+      read a m .answer .number ≡ 0 → read b m .answer .number ≡ 0
+      → (compare a b .answer .number ≡ 0) × (compare a b .answer .image ≡ 0) × (compare a b .answer .block ≡ 0)
+
+abbrev pub Refuses-as-reading : Type 0
+Refuses-as-reading = (a b m : List ℕ) → length m ≡ size → As-reading a b m
+
+-- A refusal reports nothing else: no field, no run, and zeros in all places.
+abbrev pub Refused-reports-nothing : Type 0
+Refused-reports-nothing =
+    (a b : List ℕ) → (compare a b .answer .number ≡ 0 → ⊥)
+    → (compare a b .answer .fields ≡ 0) × (compare a b .answer .runs ≡ 0) × (compare a b .runs ≡ replicate 512 0)
+
+-- The bit of weight 2^k is set exactly if field k differs.
+abbrev pub Fields-exactly : Type 0
+Fields-exactly =
+    (a b : List ℕ) (k : ℕ) → compare a b .answer .number ≡ 0 → k < Image.field-count
+    → bit k (compare a b .answer .fields) ≡ not (eqb (field a k) (field b k))
+
+-- The number is that of all runs, at most 8192; the list has the first 256.
+abbrev pub At-most-8192 : Type 0
+At-most-8192 = (a b : List ℕ) → compare a b .answer .runs ≤ 8192
+
+-- An accepted image compared with itself: nothing.
+abbrev pub Itself : Type 0
+Itself =
+    (a : List ℕ) → image-fault a .number ≡ 0
+    → compare a a
+    ≡ record { answer = record { number = 0; image = 0; block = 0; fields = 0; runs = 0 }; runs = replicate 512 0 }
+
+-- the other image
+abbrev pub other : ℕ → ℕ
+other image = if eqb image 1 then 2 else if eqb image 2 then 1 else image
+
+abbrev pub exchanged : Compared → Compared
+exchanged c =
+    record {
+      answer = record {
+        number = c .answer .number;
+        image = other (c .answer .image);
+        block = c .answer .block;
+        fields = c .answer .fields;
+        runs = c .answer .runs;
+      };
+      runs = c .runs;
+    }
+
+-- Exchanging two images exchanges nothing but the image that a refusal names. (Where both are refused, each order tells of its first.)
+abbrev pub Exchanges : Type 0
+Exchanges =
+    (a b : List ℕ) → (image-fault a .number ≡ 0 → ⊥) → image-fault b .number ≡ 0
+    → compare b a ≡ exchanged (compare a b)
+
+-- Two accepted images whose fields agree, all but the edition, and whose memories agree, are read alike; and only such. (The format words agree anyway; fields of
+-- weight 4 on are the state's.)
+abbrev pub Read-alike : Type 0
+Read-alike =
+    (a b m : List ℕ) → length m ≡ size → compare a b .answer .number ≡ 0
+    → ((compare a b .answer .fields / 4 ≡ 0) × (compare a b .answer .runs ≡ 0)) ↔ (read a m ≡ read b m)

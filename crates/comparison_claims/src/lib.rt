@@ -1,0 +1,1 @@
+// No code: theorems about comparing images, in specs/ and proofs/.

@@ -1,0 +1,1 @@
+// No code: theorems about runs of differing bytes, in specs/ and proofs/.
