@@ -68,10 +68,11 @@ exchanged c =
       runs = c .runs;
     }
 
--- Exchanging two images exchanges nothing but the image that a refusal names. (Where both are refused, each order tells of its first.)
+-- Exchanging two images, not both of them refused, exchanges nothing but the image that a refusal names. (Where both are, each order tells of
+-- its first.)
 abbrev pub Exchanges : Type 0
 Exchanges =
-    (a b : List ℕ) → (image-fault a .number ≡ 0 → ⊥) → image-fault b .number ≡ 0
+    (a b : List ℕ) → ((image-fault a .number ≡ 0 → ⊥) → image-fault b .number ≡ 0)
     → compare b a ≡ exchanged (compare a b)
 
 -- Two accepted images whose fields agree, all but the edition, and whose memories agree, are read alike; and only such. (The format words agree anyway; fields of
