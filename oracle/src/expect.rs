@@ -3,6 +3,7 @@
 //! of them.
 
 mod clock;
+mod compare;
 mod damage;
 mod images;
 mod listing;
@@ -19,6 +20,7 @@ use crate::{State, MEMORY_SIZE};
 pub fn expect(name: &str) -> Option<String> {
     match name {
         "test_clock" => Some(clock::expect()),
+        "test_compare" => Some(compare::expect()),
         "test_images" => Some(images::expect()),
         "test_listing" => Some(listing::expect()),
         "test_runs" => Some(runs::expect()),
@@ -39,6 +41,12 @@ impl Sum {
     fn mix_bytes(&mut self, bytes: &[u8]) {
         for &byte in bytes {
             self.mix(u32::from(byte));
+        }
+    }
+
+    fn mix_all(&mut self, numbers: impl IntoIterator<Item = u32>) {
+        for number in numbers {
+            self.mix(number);
         }
     }
 

@@ -21,63 +21,99 @@ const CONTENT_SIZE: usize = 508;
 /// the last.
 const FIELDS: usize = 15;
 
+/// The words of block 0 in their order, the format word first and the read-only
+/// address last: of the first edition, which has none, that of no read-only part.
+pub(crate) type Fields = [u16; FIELDS];
+
+/// Why an image is refused.
+pub(crate) struct Refusal {
+    pub number: u16,
+    /// The bad block of refusals 6 and 7, else 0.
+    pub block: u16,
+}
+
+/// The fields of an image that is as it must be in all its blocks.
+pub(crate) fn judge(image: &[u8]) -> Result<Fields, Refusal> {
+    let refused = |number, block| Err(Refusal { number, block });
+    if image.len() != IMAGE_SIZE {
+        return refused(Answer::IMAGE_SIZE_WRONG, 0);
+    }
+    for (number, block) in (0..).zip(image.chunks_exact(BLOCK_SIZE)) {
+        if word_sum(block) != 0xFFFF {
+            return refused(Answer::BLOCK_CHECK_WRONG, number);
+        }
+        if word(block, 0) != number {
+            return refused(Answer::BLOCK_NUMBER_WRONG, number);
+        }
+    }
+
+    let content = &image[CONTENT];
+    let mut fields: Fields = std::array::from_fn(|n| word(content, n));
+    let used = match (fields[0], fields[1]) {
+        (FORMAT, FIRST_EDITION) => {
+            fields[FIELDS - 1] = State::NO_READ_ONLY as u16;
+            FIELDS - 1
+        }
+        (FORMAT, EDITION) => FIELDS,
+        _ => return refused(Answer::FORMAT_WRONG, 0),
+    };
+    let last_block = &image[(BLOCKS - 1) * BLOCK_SIZE..];
+    let last_used = MEMORY_SIZE - (BLOCKS - 2) * CONTENT_SIZE;
+    let filler_is_zero = all_zero(&content[2 * used..]) && all_zero(&last_block[CONTENT][last_used..]);
+    if !state_of(&fields).is_well_formed() || !filler_is_zero {
+        return refused(Answer::FIELDS_NOT_WELL_FORMED, 0);
+    }
+    Ok(fields)
+}
+
+fn state_of(fields: &Fields) -> State {
+    State {
+        wp: fields[2],
+        pc: fields[3],
+        st: fields[4],
+        flags: fields[5],
+        psi: Psi {
+            control_and_masks: fields[6],
+            directions: fields[7],
+            latches: fields[8],
+            load: fields[9],
+            decrementer: fields[10],
+            read_register: fields[11],
+            phase: fields[12],
+            pending: fields[13],
+        },
+        read_only: u32::from(fields[14]),
+    }
+}
+
+/// The memory of an image in the parts that its blocks hold, each with the address
+/// of its first byte.
+pub(crate) fn memory_parts(image: &[u8]) -> impl Iterator<Item = (usize, &[u8])> {
+    let addresses = (0..MEMORY_SIZE).step_by(CONTENT_SIZE);
+    let blocks = image.chunks_exact(BLOCK_SIZE).skip(1);
+    addresses.zip(blocks).map(|(address, block)| {
+        let size = CONTENT_SIZE.min(MEMORY_SIZE - address);
+        (address, &block[CONTENT][..size])
+    })
+}
+
 /// Reads an image: its memory into `memory`, its state into the answer.
 pub fn read_image(image: &[u8], memory: &mut [u8]) -> Answer {
     if memory.len() != MEMORY_SIZE {
         return Answer::refused(Answer::MEMORY_SIZE_WRONG, State::BLANK);
     }
-    if image.len() != IMAGE_SIZE {
-        return Answer::refused(Answer::IMAGE_SIZE_WRONG, State::BLANK);
-    }
-    for (number, block) in image.chunks_exact(BLOCK_SIZE).enumerate() {
-        let refusal = if word_sum(block) != 0xFFFF {
-            Answer::BLOCK_CHECK_WRONG
-        } else if usize::from(word(block, 0)) != number {
-            Answer::BLOCK_NUMBER_WRONG
-        } else {
-            continue;
-        };
-        return Answer {
-            block: number as u16,
-            ..Answer::refused(refusal, State::BLANK)
-        };
-    }
-
-    let content = &image[CONTENT];
-    let (fields, read_only) = match (word(content, 0), word(content, 1)) {
-        (FORMAT, FIRST_EDITION) => (FIELDS - 1, State::NO_READ_ONLY),
-        (FORMAT, EDITION) => (FIELDS, u32::from(word(content, FIELDS - 1))),
-        _ => return Answer::refused(Answer::FORMAT_WRONG, State::BLANK),
-    };
-    let state = State {
-        wp: word(content, 2),
-        pc: word(content, 3),
-        st: word(content, 4),
-        flags: word(content, 5),
-        psi: Psi {
-            control_and_masks: word(content, 6),
-            directions: word(content, 7),
-            latches: word(content, 8),
-            load: word(content, 9),
-            decrementer: word(content, 10),
-            read_register: word(content, 11),
-            phase: word(content, 12),
-            pending: word(content, 13),
+    match judge(image) {
+        Ok(fields) => {
+            for (address, part) in memory_parts(image) {
+                memory[address..address + part.len()].copy_from_slice(part);
+            }
+            Answer::accepted(state_of(&fields))
+        }
+        Err(Refusal { number, block }) => Answer {
+            block,
+            ..Answer::refused(number, State::BLANK)
         },
-        read_only,
-    };
-    let last_block = &image[(BLOCKS - 1) * BLOCK_SIZE..];
-    let last_used = MEMORY_SIZE - (BLOCKS - 2) * CONTENT_SIZE;
-    let filler_is_zero = all_zero(&content[2 * fields..]) && all_zero(&last_block[CONTENT][last_used..]);
-    if !state.is_well_formed() || !filler_is_zero {
-        return Answer::refused(Answer::FIELDS_NOT_WELL_FORMED, State::BLANK);
     }
-
-    let blocks = image.chunks_exact(BLOCK_SIZE).skip(1);
-    for (part, block) in memory.chunks_mut(CONTENT_SIZE).zip(blocks) {
-        part.copy_from_slice(&block[CONTENT][..part.len()]);
-    }
-    Answer::accepted(state)
 }
 
 /// Writes `state` and `memory` into `image`.
@@ -93,7 +129,7 @@ pub fn write_image(state: State, memory: &[u8], image: &mut [u8]) -> Answer {
     }
 
     let psi = &state.psi;
-    let fields: [u16; FIELDS] = [
+    let fields: Fields = [
         FORMAT,
         EDITION,
         state.wp,

@@ -47,7 +47,7 @@ compare a b =
     if not (eqb (image-fault a .number) 0) then refused 1 (image-fault a)
     else if not (eqb (image-fault b .number) 0) then refused 2 (image-fault b)
     else
-      record {
-        answer = record { number = 0; image = 0; block = 0; fields = fields a b; runs = length (runs a b) };
-        runs = places (runs a b);
-      }
+    record {
+      answer = record { number = 0; image = 0; block = 0; fields = fields a b; runs = length (runs a b) };
+      runs = places (runs a b);
+    }

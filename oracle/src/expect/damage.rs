@@ -7,6 +7,8 @@ use crate::{State, BLOCKS, BLOCK_SIZE};
 
 /// How many kinds of damage there are.
 pub const KINDS: u16 = 24;
+/// The last kind is none, and so are any further.
+pub const NO_DAMAGE: u16 = KINDS - 1;
 /// Classes of places: the first block, one in the middle, the last.
 pub const PLACES: u16 = 3;
 
@@ -88,7 +90,7 @@ pub fn make_first_edition(image: &mut [u8]) {
 }
 
 /// Damage of a kind to an image of this edition, in a block of the class where
-/// the kind leaves a choice. The last kind is none, and so are any further.
+/// the kind leaves a choice.
 pub fn damage(image: &mut [u8], seeds: &mut Seeds, state: State, edition: u16, kind: u16, place: u16) {
     if kind < OLD_WAYS {
         let bad = spoiled(seeds, state, kind);
@@ -101,7 +103,7 @@ pub fn damage(image: &mut [u8], seeds: &mut Seeds, state: State, edition: u16, k
         put_and_mend(image, READ_ONLY, bad.read_only as u16);
         return;
     }
-    if kind >= KINDS - 1 {
+    if kind >= NO_DAMAGE {
         return;
     }
     let block = match place {

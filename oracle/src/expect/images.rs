@@ -25,7 +25,7 @@ fn size(seeds: &mut Seeds, whole: usize) -> usize {
 }
 
 /// A read-only address: the first, the last, or any.
-fn any_read_only(seeds: &mut Seeds) -> u32 {
+pub(super) fn any_read_only(seeds: &mut Seeds) -> u32 {
     let address = match seeds.below(6) {
         0 => 0,
         1 => 2,

@@ -1,6 +1,8 @@
 //! A small bench for the tests: memory, state, and short ways to use them.
 #![allow(dead_code)]
 
+pub mod images;
+
 use oracle::{run, Answer, Machine, Memory, State, Step, MEMORY_SIZE};
 
 /// All pins high, no cycles.
