@@ -1,6 +1,7 @@
 // What differs between two images: the fields of block 0, and the runs of differing bytes of their memories.
 ghost use mathlib.Core.Path.{_≡_};
 ghost use Prim.Native.Nat.{_+_, _<_, _≤_};
+ghost use mathlib.Core.List.{[]};
 ghost use lib.ListN.{length};
 ghost use Rattle.differing_runs.specs.Runs as Runs;
 ghost use Rattle.image_blocks.specs.Image as Image;

@@ -5,8 +5,8 @@ use mathlib.Core.Bool.{Bool, true, false, not, _&&_, and-assoc, and-true, Bool·
 use mathlib.Core.List.{List, [], _∷_, _++_}
 use native.Mathlib.Omega.{arith}
 use native.Mathlib.Numerals.{add-one}
-use lib.ListN.{length, getD, take, replicate}
-use lib.Seq.{take-suc, length-take-le}
+use lib.ListN.{length, getD, take, drop, replicate}
+use lib.Seq.{take-suc, take-add, length-take-le}
 use lib.Dec.{eqb}
 use Rattle.differing_runs.specs.Runs.{differences}
 use Rattle.differing_runs.specs.Scan.{none}
@@ -25,6 +25,14 @@ differences-length [] [] h = refl
 differences-length [] (y ∷ b) h = refl
 differences-length (x ∷ a) [] h = absurd (omega arith)
 differences-length (x ∷ a) (y ∷ b) h = ap suc (differences-length a b (omega arith))
+
+-- the next m bytes after n
+pub next-part :
+    (a b : List ℕ) (n m : ℕ) → length a ≡ length b → n ≤ length a
+    → differences (take (n + m) a) (take (n + m) b) ≡ differences (take n a) (take n b) ++ differences (take m (drop n a)) (take m (drop n b))
+next-part a b n m h l =
+    rw (take-add n m a, take-add n m b)
+    (differences-append (take n a) (take n b) (take m (drop n a)) (take m (drop n b)) (length-take-le n a l ∙ sym (length-take-le n b (omega arith))))
 
 -- one byte more
 pub one-more :

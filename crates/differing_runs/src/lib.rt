@@ -4,7 +4,7 @@ ghost use mathlib.Core.Bool.{Bool, false};
 ghost use mathlib.Core.List.{List, [], _∷_, _++_};
 ghost use Prim.Native.Nat.{ℕ, suc, _+_, _<_, _≤_};
 ghost use lib.ListN.{length, replicate};
-ghost use Rattle.differing_runs.specs.Runs.{differences, runs-of};
+ghost use Rattle.differing_runs.specs.Runs.{differences, runs-of, places};
 ghost use Rattle.differing_runs.specs.Scan.{none, put-run, Holds};
 
 // How many runs are listed at most, and the places that they take: start and length of each.
@@ -21,8 +21,8 @@ pub struct Found {
 impl Found {
     // Before the first byte.
     pub fn nothing() -> Found
-        ensures { λ r. ⌜ r .ended ≡ 0 ⌝ }
-        ensures { λ r. ⌜ r .length ≡ 0 ⌝ }
+        ensures { λ r. ⌜ r .ended + r .length ≡ 0 ⌝ }
+        ensures { λ r. ⌜ Holds [] r (places []) ⌝ }
     {
         Found {
             ended: 0,

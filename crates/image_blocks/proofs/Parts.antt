@@ -85,7 +85,7 @@ unfolding memory-of
 memory-length img h = length-take-le 16384 (contents-of img 33 1) (omega (arith, contents-length img h))
 
 -- what a block carries of the memory lies behind its number
-pub memory-part :
+memory-part :
     (img : List ℕ) (i k : ℕ) → length img ≡ image-size → i < 33 → k ≤ 508 → 508 * i + k ≤ 16384
     → take k (drop (508 * i) (memory-of img)) ≡ take k (drop (512 * (i + 1) + 2) img)
 unfolding memory-of
@@ -96,6 +96,14 @@ memory-part img i k h l b f =
     ∙ sym (take-take k 508 (drop (508 * i) all) b)
     ∙ ap (take k) (contents-part img i h l ∙ content-lies img (i + 1))
     ∙ take-take k 508 (drop (512 * (i + 1) + 2) img) b
+
+-- what block i + 1 carries of the memory, up to byte `to`, lies between these two bytes of the image
+pub carried-part :
+    (img : List ℕ) (i to : ℕ) → length img ≡ image-size → i < 33 → to ≡ min (508 * (i + 1)) 16384
+    → take (512 * (i + 1) + 2 + (to - 508 * i) - (512 * (i + 1) + 2)) (drop (512 * (i + 1) + 2) img) ≡ take (to - 508 * i) (drop (508 * i) (memory-of img))
+carried-part img i to h l e =
+    rw (let n : 512 * (i + 1) + 2 + (to - 508 * i) - (512 * (i + 1) + 2) ≡ to - 508 * i = omega arith in n)
+    (sym (memory-part img i (to - 508 * i) h l (omega arith) (omega arith)))
 
 -- either edition's fields leave room in block 0
 pub fields-most : (img : List ℕ) → fields-in img ≤ field-count

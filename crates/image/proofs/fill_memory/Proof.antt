@@ -8,7 +8,7 @@ use lib.ListN.{length, take, drop, drop-of-length-le}
 use lib.Seq.{take-all}
 use Rattle.image_blocks.specs.Image.{memory-of}
 use Rattle.image_blocks.proofs.Lists.{grown, grown-length}
-use Rattle.image_blocks.proofs.Parts.{memory-part, memory-length}
+use Rattle.image_blocks.proofs.Parts.{carried-part, memory-length}
 use Rattle.image.proofs.fill_memory.Statement.{statement}
 use Rattle.image.proofs.fill_memory.Tie as tie
 
@@ -78,9 +78,7 @@ loop-again c =
     let a = l .before .before .before .args in
     let i : ℕ = l .loop .i in
     let to : ℕ = k .carried .result in
-    let part : take (512 * (i + 1) + 2 + (to - 508 * i) - (512 * (i + 1) + 2)) (drop (512 * (i + 1) + 2) (a .image .now)) ≡ take (to - 508 * i) (drop (508 * i) (memory-of (a .image .now))) =
-    rw (let e : 512 * (i + 1) + 2 + (to - 508 * i) - (512 * (i + 1) + 2) ≡ to - 508 * i = omega arith in e)
-    (sym (memory-part (a .image .now) i (to - 508 * i) (omega arith) (omega arith) (omega arith) (omega arith))) in
+    let part = carried-part (a .image .now) i to (omega arith) (omega arith) (k .carried .ensures) in
     let same : length (memory-of (a .image .now)) ≡ length (a .lent .now) = omega (arith, memory-length (a .image .now) (omega arith)) in
     let so-far = rw (let e : min (508 * i) 16384 ≡ 508 * i = omega arith in e) at (l .loop .inv .2) in
     let copied = grown (memory-of (a .image .now)) (a .lent .now) (l .loop .lent) _ _ (508 * i) to same (omega arith) (omega arith) so-far part (c .before .before .copy .ensures .1) in (
