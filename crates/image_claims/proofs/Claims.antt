@@ -42,7 +42,7 @@ accepted-exactly img m = by-test (eqb (read-fault img m .number) 0) refl
     by-test false e = rw e
 
 pub accepted-editions : Accepted-editions
-accepted-editions img m h = sound img (accepted img m (sym (accepted-exactly img m) ∙ h) .content-right) .edition
+accepted-editions img m h = sound img (accepted img m (sym (accepted-exactly img m) ∙ h) .image-right .content-right) .edition
 
 -- an accepted read gives the state and the memory that the image holds
 reads :
@@ -60,17 +60,17 @@ module _ (img m : List ℕ) (bytes : Bytes img) (zero-read : read img m .answer 
   known = accepted img m none
 
   in-order : Sound img
-  in-order = sound img (known .content-right)
+  in-order = sound img (known .image-right .content-right)
 
   each : (i : ℕ) → i < 34 → Sound-block img i
-  each i l = right img i (rw (zero-add i) at (each-right img 34 0 i (known .blocks-right) l))
+  each i l = right img i (rw (zero-add i) at (each-right img 34 0 i (known .image-right .blocks-right) l))
 
   rewritten : (first : List ℕ) → Image.block (Image.state-of img) (Image.memory-of img) 0 ≡ first → Writes img m (first ++ drop 512 img)
   rewritten first e buffer b =
       rw (
         reads img m none,
-        writes (Image.state-of img) (Image.memory-of img) buffer (in-order .formed) (memory-length img (known .image-sized)) b,
-        image-back img (known .image-sized) bytes in-order each,
+        writes (Image.state-of img) (Image.memory-of img) buffer (in-order .formed) (memory-length img (known .image-right .image-sized)) b,
+        image-back img (known .image-right .image-sized) bytes in-order each,
         e,
       )
 
@@ -80,13 +80,13 @@ writes-what-was-read img m bytes z e =
     let k = known img m bytes z in
     rw (take-append-drop 512 img) at
     (rewritten img m bytes z (Image.block-of img 0)
-    (second-back img (k .image-sized) bytes (Image.memory-of img) (in-order img m bytes z) (each img m bytes z 0 (omega arith)) e))
+    (second-back img (k .image-right .image-sized) bytes (Image.memory-of img) (in-order img m bytes z) (each img m bytes z 0 (omega arith)) e))
 
 pub renews-the-first-edition : Renews-the-first-edition
 unfolding renewed
 renews-the-first-edition img m bytes z e =
     rewritten img m bytes z (Image.checked (take 510 (put-word (put-word (Image.block-of img 0) 4 Image.edition) 30 no-rom)))
-    (first-back img (known img m bytes z .image-sized) bytes (Image.memory-of img) (in-order img m bytes z) (each img m bytes z 0 (omega arith)) e)
+    (first-back img (known img m bytes z .image-right .image-sized) bytes (Image.memory-of img) (in-order img m bytes z) (each img m bytes z 0 (omega arith)) e)
 
 -- a refused read hands on the number and the block that were found
 refused : (img m : List ℕ) → 0 < read-fault img m .number → read img m .answer .block ≡ read-fault img m .block

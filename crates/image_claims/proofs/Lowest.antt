@@ -15,7 +15,7 @@ use Rattle.machine.specs.State.{well-formed}
 use Rattle.image_blocks.specs.Image as Image
 use Rattle.image.specs.declared.Fault.{Fault}
 use Rattle.image_blocks.specs.Image.{block-fault}
-use Rattle.image.specs.Calls.{fault, first-fault, known-edition, content-fault, read-fault}
+use Rattle.image.specs.Calls.{fault, first-fault, known-edition, content-fault, image-fault, read-fault}
 
 -- a fault found among k blocks from number i on
 pub record Low (img : List ℕ) (k i : ℕ) (f : Fault) : Type 0 where
@@ -56,7 +56,7 @@ content-judged img =
     by-tests true true h l = omega arith
 
 pub judged : (img m : List ℕ) → 5 < read-fault img m .number → read-fault img m .number < 8 → read-fault img m ≡ first-fault img Image.block-count 0
-unfolding read-fault
+unfolding read-fault image-fault
 judged img m =
     by-tests (eqb (length m) size) (eqb (length img) Image.image-size) (eqb (first-fault img Image.block-count 0 .number) 0)
   where

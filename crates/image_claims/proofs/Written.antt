@@ -16,7 +16,7 @@ use Rattle.machine.specs.Laws.{Words}
 use Rattle.machine.proofs.Laws.{form}
 use Rattle.image_blocks.specs.Image.{image-size, format, edition, content, words-bytes, fields, word-bytes, word-at, padded, checked, words-sum, zeros, block, image, block-of, content-of, contents-of, memory-of, field-of, is-first, psi-of, rom-of, state-of, fields-in, filler-of}
 use Rattle.image_blocks.specs.Image.{block-fault}
-use Rattle.image.specs.Calls.{fault, first-fault, content-fault, read-fault, read}
+use Rattle.image.specs.Calls.{fault, first-fault, content-fault, image-fault, read-fault, read}
 use Rattle.image_blocks.proofs.Lists.{length-padded}
 use Rattle.image_blocks.proofs.Parts.{contents-joined, zeros-append}
 use Rattle.image_blocks.proofs.Written.{content-length, image-length, image-block}
@@ -141,7 +141,7 @@ content-right s m w f h =
 
 nothing-found :
     (s : State) (m other : List ℕ) → Words s → well-formed s ≡ true → length m ≡ size → length other ≡ size → read-fault (image s m) other ≡ fault 0
-unfolding read-fault
+unfolding read-fault image-fault
 nothing-found s m other w f h o =
     rw (
       eq-eqb (length other) size o,

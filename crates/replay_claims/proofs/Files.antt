@@ -11,7 +11,7 @@ use lib.Seq.{length-take-le, take-all, take-take}
 use lib.Dec.{leb}
 use Rattle.memory.specs.Memory.{size}
 use Rattle.image_blocks.specs.Image as Image
-use Rattle.image.specs.Calls.{ReadResult, read, read-fault}
+use Rattle.image.specs.Calls.{ReadResult, read, image-fault, read-fault}
 use Rattle.machine.specs.State.{blank}
 use Rattle.replay_files.specs.Pins as Pins
 use Rattle.replay_call.specs.Replay.{replay-in}
@@ -22,7 +22,7 @@ refused : List ℕ → ReadResult
 refused m = record { answer = record { number = 5; block = 0; state = blank }; memory = m }
 
 too-long : (img m : List ℕ) → length m ≡ size → Image.image-size < length img → read img m ≡ refused m
-unfolding read read-fault refused
+unfolding read read-fault image-fault refused
 too-long img m h k = rw (h, ne-eqb (length img) Image.image-size (λ e. absurd (omega arith)))
 
 read-start : (img m : List ℕ) → length m ≡ size → read (take (Image.image-size + 1) img) m ≡ read img m
