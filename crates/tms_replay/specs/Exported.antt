@@ -1,5 +1,5 @@
 -- The calls as C, Fortran and Rust see them: a state is an array of thirteen numbers, a run's counts are four, a line's length and words
--- two, a block is one.
+-- two, a block is one, what is told of two images four.
 use Prim.Native.Nat.{ℕ}
 use mathlib.Core.Path.{_≡_}
 use mathlib.Core.List.{List, [], _∷_}
@@ -10,6 +10,7 @@ use Rattle.machine.specs.Run as Run
 use Rattle.image_blocks.specs.Image as Image
 use Rattle.image.specs.Calls as Calls
 use Rattle.listing.specs.Listing as Listing
+use Rattle.comparison.specs.Compare as Compare
 use Rattle.state_array.specs.Arrays.{state-of}
 
 -- What a call answers and leaves where it was lent something to be changed.
@@ -91,4 +92,21 @@ list m a text =
       number = Listing.list m a text .answer .number;
       text = Listing.list m a text .text;
       answer = Listing.list m a text .answer .length ∷ Listing.list m a text .answer .words ∷ [];
+    }
+
+pub record Compared : Type 0 where
+  pub number : ℕ
+  pub answer : List ℕ
+  pub runs : List ℕ
+
+-- two images compared: the image and the block that a refusal names, which fields differ, the number of runs; start and length of the first
+-- 256 runs
+unfoldable pub compare : List ℕ → List ℕ → Compared
+compare a b =
+    record {
+      number = Compare.compare a b .answer .number;
+      answer =
+          Compare.compare a b .answer .image ∷ Compare.compare a b .answer .block
+          ∷ Compare.compare a b .answer .fields ∷ Compare.compare a b .answer .runs ∷ [];
+      runs = Compare.compare a b .runs;
     }

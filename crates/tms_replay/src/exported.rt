@@ -2,6 +2,7 @@
 // `include/tms_replay.h` declares them.
 ghost use mathlib.Core.Path.{_≡_};
 ghost use Rattle.tms_replay.specs.Exported as Exported;
+use differing_runs::PLACES;
 use state_array::STATE_WORDS;
 use state_array::state_of;
 use state_array::words_of;
@@ -11,6 +12,9 @@ pub const COUNTS: usize = 4;
 
 // The answer about a line: its length, and how many words its instruction takes.
 pub const LINE_ANSWER: usize = 2;
+
+// The answer about two images: the image and the block that a refusal names, which fields differ, how many runs of bytes.
+pub const COMPARE_ANSWER: usize = 4;
 
 // Power up on the lent memory.
 #[no_mangle]
@@ -101,4 +105,26 @@ pub extern "C" fn tms_list(
     let length = listed.length as u32;
     *answer = [length, listed.words as u32];
     listed.number
+}
+
+// Compares two images; `runs` gets start and length of the first 256 runs of differing bytes.
+#[no_mangle]
+pub extern "C" fn tms_compare_images(
+    first: &[u8],
+    second: &[u8],
+    answer: &mut [u32; COMPARE_ANSWER],
+    runs: &mut [u32; PLACES],
+) -> u16
+    ensures { λ r. ⌜ r ≡ Exported.compare (now (first .entry)) (now (second .entry)) .number ⌝ }
+    ensures { λ _. ⌜ now (answer .exit) ≡ Exported.compare (now (first .entry)) (now (second .entry)) .answer ⌝ }
+    ensures { λ _. ⌜ now (runs .exit) ≡ Exported.compare (now (first .entry)) (now (second .entry)) .runs ⌝ }
+{
+    let compared = super::compare_images(first, second, runs);
+    *answer = [
+        compared.image as u32,
+        compared.block as u32,
+        compared.fields,
+        compared.runs,
+    ];
+    compared.number
 }

@@ -1,8 +1,11 @@
-// The public calls: power up, run, read an image, write an image, list an instruction. Module `exported` has them for C, Fortran and Rust.
+// The public calls: power up, run, read an image, write an image, list an instruction, compare two images. Module `exported` has them for C, Fortran and Rust.
 ghost use mathlib.Core.Path.{_≡_};
 ghost use Rattle.machine.specs.Run as Run;
 ghost use Rattle.image.specs.Calls as Calls;
 ghost use Rattle.listing.specs.Listing as Listing;
+ghost use Rattle.comparison.specs.Compare as Compare;
+use comparison::CompareAnswer;
+use differing_runs::PLACES;
 use image::ReadAnswer;
 use image::WriteAnswer;
 use listing::ListAnswer;
@@ -49,4 +52,12 @@ pub fn list(bytes: &[u8], address: u16, text: &mut [u8]) -> ListAnswer
     ensures { λ _. ⌜ now (text .exit) ≡ Listing.list (now (bytes .entry)) address (now (text .entry)) .text ⌝ }
 {
     listing::list(bytes, address, text)
+}
+
+// Compares two images: which fields of block 0 differ, and which runs of bytes, the first 256 of them into the lent places.
+pub fn compare_images(first: &[u8], second: &[u8], runs: &mut [u32; PLACES]) -> CompareAnswer
+    ensures { λ r. ⌜ r ≡ Compare.compare (now (first .entry)) (now (second .entry)) .answer ⌝ }
+    ensures { λ _. ⌜ now (runs .exit) ≡ Compare.compare (now (first .entry)) (now (second .entry)) .runs ⌝ }
+{
+    comparison::compare_images(first, second, runs)
 }
