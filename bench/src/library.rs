@@ -28,10 +28,21 @@ extern "C" {
         image: *mut u8,
         image_len: usize,
     ) -> u16;
+    fn tms_compare_images(
+        first: *const u8,
+        first_len: usize,
+        second: *const u8,
+        second_len: usize,
+        answer: *mut u32,
+        runs: *mut u32,
+    ) -> u16;
 }
 
 /// A state's thirteen words, in the order of an image's block 0, each in an element of 32 bits.
 pub type Words = [u32; 13];
+
+/// What is told of two images: image, block, fields, number of runs.
+pub type Compared = [u32; 4];
 
 /// A run's four counts.
 pub type Counts = [u64; 4];
@@ -127,6 +138,21 @@ pub fn write_image(state: &Words, memory: &[u8], image: &mut [u8]) -> u16 {
             memory.len(),
             image.as_mut_ptr(),
             image.len(),
+        )
+    }
+}
+
+/// The number; in `answer` what is told of the two images, in `runs` start and length of the first 256.
+pub fn compare_images(first: &[u8], second: &[u8], answer: &mut Compared, runs: &mut [u32; 512]) -> u16 {
+    // SAFETY: as in `run`.
+    unsafe {
+        tms_compare_images(
+            first.as_ptr(),
+            first.len(),
+            second.as_ptr(),
+            second.len(),
+            answer.as_mut_ptr(),
+            runs.as_mut_ptr(),
         )
     }
 }

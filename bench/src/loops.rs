@@ -260,15 +260,15 @@ fn image(state: State, memory: &[u8]) -> Vec<u8> {
 }
 
 /// A linear congruential generator with a fixed seed: the same numbers in each run.
-struct Random(u32);
+pub struct Random(u32);
 
 impl Random {
-    fn new() -> Random {
+    pub fn new() -> Random {
         Random(1)
     }
 
     /// A number from 0 to `end` - 1, from the upper half: the lower bits have short periods.
-    fn below(&mut self, end: u32) -> u32 {
+    pub fn below(&mut self, end: u32) -> u32 {
         self.0 = self.0.wrapping_mul(1_103_515_245).wrapping_add(12345);
         (self.0 >> 16) % end
     }

@@ -93,6 +93,57 @@ fn images(image: &[u8]) -> Times {
     times
 }
 
+/// Two images whose memories differ in some bytes.
+struct Pair {
+    first: Vec<u8>,
+    second: Vec<u8>,
+    runs: u32,
+}
+
+/// The image, and one whose memory differs from its in the bytes that `differs` names, asked from 0 on.
+fn pair(image: &[u8], mut differs: impl FnMut(usize) -> bool) -> Pair {
+    let mut memory = vec![0; oracle::MEMORY_SIZE];
+    let state = oracle::read_image(image, &mut memory).state;
+    let mut runs = 0;
+    let mut before = false;
+    for (address, byte) in memory.iter_mut().enumerate() {
+        let now = differs(address);
+        *byte ^= u8::from(now);
+        runs += u32::from(now && !before);
+        before = now;
+    }
+    let mut second = image.to_vec();
+    assert_eq!(oracle::write_image(state, &memory, &mut second).number, 0);
+    Pair {
+        first: image.to_vec(),
+        second,
+        runs,
+    }
+}
+
+/// Two images compared by both.
+fn compared(of: &Pair) -> Times {
+    let mut times = Times::default();
+    let mut ours = [0; 512];
+    let mut theirs = [0; 512];
+    for _ in 0..IMAGES {
+        let mut answer = library::Compared::default();
+        let start = Instant::now();
+        let number = library::compare_images(&of.first, &of.second, &mut answer, &mut ours);
+        times.library += start.elapsed();
+        let start = Instant::now();
+        let expected = oracle::compare_images(&of.first, &of.second, &mut theirs);
+        times.oracle += start.elapsed();
+        assert_eq!((number, expected.number), (0, 0));
+        assert_eq!(
+            (answer, expected.fields, expected.runs),
+            ([0, 0, 0, of.runs], 0, of.runs)
+        );
+        assert!(ours == theirs, "the runs differ");
+    }
+    times
+}
+
 /// The least of several rounds, for each of the two.
 fn best(round: impl Fn() -> Times) -> Times {
     let mut least = round();
@@ -160,6 +211,17 @@ fn main() -> ExitCode {
         "pair",
         &best(|| images(&registers.image)),
     );
+    let image = &registers.image;
+    let mut random = loops::Random::new();
+    for (name, of) in [
+        ("compared, no difference", pair(image, |_| false)),
+        ("compared, 8 runs", pair(image, |address| address % 2048 == 1000)),
+        ("compared, 1 run of all", pair(image, |_| true)),
+        ("compared, 8192 runs", pair(image, |address| address % 2 == 0)),
+        ("compared, runs by chance", pair(image, |_| random.below(2) == 0)),
+    ] {
+        within &= report(name, IMAGES, "pair", &best(|| compared(&of)));
+    }
     report_day(&sample, &times);
     if within {
         ExitCode::SUCCESS
