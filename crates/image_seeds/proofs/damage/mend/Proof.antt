@@ -1,8 +1,8 @@
 -- A turn for each of the 255 words before the check word.
 use Prim.Native.Nat.{_≤_, _-_}
 use borrow.Author.Needs.{needs}
-use Rattle.test_images.proofs.damage.mend.Statement.{statement}
-use Rattle.test_images.proofs.damage.mend.Tie as tie
+use Rattle.image_seeds.proofs.damage.mend.Statement.{statement}
+use Rattle.image_seeds.proofs.damage.mend.Tie as tie
 
 abbrev Inv-loop : tie.InvT-loop
 Inv-loop image block first sum₀ n₀ sum n = n ≤ 255
