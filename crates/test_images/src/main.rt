@@ -5,16 +5,14 @@ ghost use Prim.Native.Nat.{_+_, _<_, _≤_};
 ghost use lib.ListN.{length};
 ghost use Rattle.memory.specs.Memory.{Installed, size};
 ghost use Rattle.image_blocks.specs.Image as Image;
-use damage::Case;
 use image::ReadAnswer;
+use image_seeds::damage;
+use image_seeds::damage::Case;
 use machine::State;
 use seeds::below;
 use seeds::lines;
-use seeds::roms;
 use seeds::spoiled;
 use seeds::states;
-
-mod damage;
 
 // Lines of the second part of the output, and cases of one of them.
 const LINES: u32 = 128;
@@ -113,21 +111,13 @@ fn put_unwritten(bytes: &[u8], image: &mut [u8], state: State, sum: u32) -> u32
     left
 }
 
-// A state with a read-only address.
-fn read_only_state(seed: &mut u32) -> State {
-    let flags = below(seed, 4);
-    let mut state = states::state(seed, flags);
-    state.rom = roms::plain(seed);
-    state
-}
-
 // Makes the image of a state and of any bytes, one of the case's edition, and damages it.
 fn prepare(bytes: &mut [u8], image: &mut [u8], seed: &mut u32, case: Case) -> u32
     requires { ⌜ Installed (now bytes) ⌝ }
     requires { ⌜ length (now image) ≡ Image.image-size ⌝ }
 {
     seeds::fill(bytes, seed);
-    let state = read_only_state(seed);
+    let state = image_seeds::read_only_state(seed, 4);
     let written = write(bytes, image, seed, state);
     let sum = put_unwritten(bytes, image, state, written);
     damage::put_edition(image, case.edition);
@@ -229,7 +219,7 @@ fn mix_outcome(sum: u32, outcome: Outcome) -> u32 {
 
 // Any case; of the kinds about half are none.
 fn any_case(seed: &mut u32) -> Case {
-    let edition = 1 + below(seed, 2);
+    let edition = image_seeds::any_edition(seed);
     let kind = below(seed, 2 * damage::KINDS);
     Case {
         edition,

@@ -3,8 +3,8 @@ use lib.ListN.{length}
 use Prim.Native.Nat.{_≤_, _-_}
 use mathlib.Core.Path.{_≡_}
 use borrow.Author.Needs.{needs}
-use Rattle.test_images.proofs.damage.put_words.Statement.{statement}
-use Rattle.test_images.proofs.damage.put_words.Tie as tie
+use Rattle.image_seeds.proofs.damage.put_words.Statement.{statement}
+use Rattle.image_seeds.proofs.damage.put_words.Tie as tie
 
 abbrev Inv-loop : tie.InvT-loop
 Inv-loop image₀ words n₀ image n = (length image ≡ length image₀) × (n ≤ 12)
