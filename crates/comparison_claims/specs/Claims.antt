@@ -2,16 +2,15 @@
 use Prim.Native.Nat.{ℕ, _/_, _≤_, _<_}
 use mathlib.Core.Path.{_≡_}
 use mathlib.Core.Logic.{_↔_}
-use mathlib.Core.Bool.{true, not}
+use mathlib.Core.Bool.{not}
 use mathlib.Core.List.{List}
-use lib.ListN.{length, getD, replicate}
+use lib.ListN.{length, replicate}
 use lib.Dec.{eqb}
 use Rattle.bits.specs.Bits.{if_then_else_, bit}
 use Rattle.memory.specs.Memory.{size}
-use Rattle.differing_runs.specs.Runs.{Stretch, listed}
 use Rattle.image_blocks.specs.Image as Image
 use Rattle.image.specs.Calls.{image-fault, read}
-use Rattle.comparison.specs.Compare.{Compared, field, runs, compare}
+use Rattle.comparison.specs.Compare.{Compared, field, compare}
 
 -- A refusal is reading's: its number and its block, of the first image that reading refuses.
 pub record As-reading (a b m : List ℕ) : Type 0 where

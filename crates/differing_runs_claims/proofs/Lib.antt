@@ -1,1 +1,4 @@
+pub mod Runs
+pub mod Order
+pub mod Places
 pub mod Claims

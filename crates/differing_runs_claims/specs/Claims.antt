@@ -22,13 +22,21 @@ pub record Maximal (d : List Bool) (r : Stretch) : Type 0 where
   pub before : (i : ℕ) → i + 1 ≡ r .start → differs d i ≡ false
   pub after : differs d (end r) ≡ false
 
--- run k, counted from 0
+-- stretch k of a list, counted from 0
+abbrev pub stretch : List Stretch → ℕ → Stretch
+stretch l k = getD l k (record { start = 0; length = 0 })
+
+-- whether a stretch is in a list
+abbrev pub Among : List Stretch → Stretch → Type 0
+Among l r = (k : ℕ) × (k < length l) × (stretch l k ≡ r)
+
+-- run k
 abbrev pub run : List Bool → ℕ → Stretch
-run d k = getD (runs-of d) k (record { start = 0; length = 0 })
+run d k = stretch (runs-of d) k
 
 -- whether a stretch is one of the runs
 abbrev pub Is-run : List Bool → Stretch → Type 0
-Is-run d r = (k : ℕ) × (k < length (runs-of d)) × (run d k ≡ r)
+Is-run d r = Among (runs-of d) r
 
 -- The runs are the maximal stretches, all of them and nothing else.
 abbrev pub Maximal-stretches : Type 0
@@ -46,8 +54,8 @@ Covers-exactly =
 
 -- A list that rises and has the maximal stretches and no others is the list of runs: nothing else could have been meant.
 pub record Lists (d : List Bool) (l : List Stretch) : Type 0 where
-  pub maximal : (r : Stretch) → ((k : ℕ) × (k < length l) × (getD l k (record { start = 0; length = 0 }) ≡ r)) ↔ Maximal d r
-  pub rising : (j k : ℕ) → j < k → k < length l → getD l j (record { start = 0; length = 0 }) .start < getD l k (record { start = 0; length = 0 }) .start
+  pub maximal : (r : Stretch) → Among l r ↔ Maximal d r
+  pub rising : (j k : ℕ) → j < k → k < length l → stretch l j .start < stretch l k .start
 
 abbrev pub Only-list : Type 0
 Only-list = (d : List Bool) (l : List Stretch) → Lists d l → l ≡ runs-of d
