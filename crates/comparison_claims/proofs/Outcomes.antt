@@ -1,6 +1,6 @@
 -- Comparing refuses the first image, or the second, or neither. Reading goes by the same table once the memory's size is right.
 use Prim.Native.Nat.{ℕ}
-use mathlib.Core.Path.{_≡_, refl, sym}
+use mathlib.Core.Path.{_≡_, refl, sym, ap, _∙_}
 use mathlib.Core.Logic.{by-cases}
 use mathlib.Core.List.{List, []}
 use native.Mathlib.Decide.{ℕ-discrete}
@@ -10,7 +10,9 @@ use Rattle.memory.specs.Memory.{size}
 use Rattle.machine.specs.State.{blank}
 use Rattle.differing_runs.specs.Runs.{numbers, places}
 use Rattle.image_blocks.specs.Image as Image
+use Rattle.image.specs.declared.Fault.{Fault}
 use Rattle.image.specs.Calls.{image-fault, read-fault, read}
+use Rattle.image.proofs.Answers.{alone, reads, reads-not, read-number}
 use Rattle.comparison.specs.Compare.{Compared, fields, runs, refused, compare}
 
 abbrev pub Accepted : List ℕ → Type 0
@@ -63,23 +65,18 @@ no-places = refl
 
 -- Reading.
 
-alone : (img m : List ℕ) → length m ≡ size → read-fault img m ≡ image-fault img
-unfolding read-fault
-alone img m h = rw (eq-eqb (length m) size h)
+read-alone : (img m : List ℕ) → length m ≡ size → read-fault img m .number ≡ image-fault img .number
+read-alone img m h = ap (λ (f : Fault). f .number) (alone img m h)
 
-pub reads :
+pub reads-whole :
     (img m : List ℕ) → length m ≡ size → Accepted img
     → read img m ≡ record { answer = record { number = 0; block = 0; state = Image.state-of img }; memory = Image.memory-of img }
-unfolding read
-reads img m h y = rw (alone img m h, eq-eqb (image-fault img .number) 0 y)
+reads-whole img m h y = reads img m (read-alone img m h ∙ y)
 
-pub reads-not :
+pub reads-nothing :
     (img m : List ℕ) → length m ≡ size → ¬ Accepted img
     → read img m ≡ record { answer = record { number = image-fault img .number; block = image-fault img .block; state = blank }; memory = m }
-unfolding read
-reads-not img m h n = rw (alone img m h, ne-eqb (image-fault img .number) 0 n)
+reads-nothing img m h n = rw (alone img m h) at (reads-not img m (λ e. n (sym (read-alone img m h) ∙ e)))
 
--- reading's number is the table's
-pub read-number : (img m : List ℕ) → length m ≡ size → read img m .answer .number ≡ image-fault img .number
-read-number img m h =
-    by-cases (ℕ-discrete (image-fault img .number) 0) (λ y. rw (reads img m h y) (sym y)) (λ n. rw (reads-not img m h n))
+pub read-answer : (img m : List ℕ) → length m ≡ size → read img m .answer .number ≡ image-fault img .number
+read-answer img m h = read-number img m ∙ read-alone img m h

@@ -1,16 +1,18 @@
 -- What is claimed of comparing images (document 02, Q-8).
-use Prim.Native.Nat.{ℕ, _/_, _≤_, _<_}
+use Prim.Native.Nat.{ℕ, _/_, _^_, _≤_, _<_}
 use mathlib.Core.Path.{_≡_}
 use mathlib.Core.Logic.{_↔_}
 use mathlib.Core.Bool.{not}
 use mathlib.Core.List.{List}
-use lib.ListN.{length, replicate}
+use lib.ListN.{length, getD, replicate}
 use lib.Dec.{eqb}
 use Rattle.bits.specs.Bits.{if_then_else_, bit}
 use Rattle.memory.specs.Memory.{size}
+use Rattle.differing_runs.specs.Runs.{Stretch, places}
+use Rattle.differing_runs_claims.specs.Claims.{end, Among}
 use Rattle.image_blocks.specs.Image as Image
 use Rattle.image.specs.Calls.{image-fault, read}
-use Rattle.comparison.specs.Compare.{Compared, field, compare}
+use Rattle.comparison.specs.Compare.{Compared, field, runs, compare}
 
 -- A refusal is reading's: its number and its block, of the first image that reading refuses.
 pub record As-reading (a b m : List ℕ) : Type 0 where
@@ -39,7 +41,25 @@ Fields-exactly =
     (a b : List ℕ) (k : ℕ) → compare a b .answer .number ≡ 0 → k < Image.field-count
     → bit k (compare a b .answer .fields) ≡ not (eqb (field a k) (field b k))
 
--- The number is that of all runs, at most 8192; the list has the first 256.
+-- No other bit is set.
+abbrev pub No-other-bit : Type 0
+No-other-bit = (a b : List ℕ) → compare a b .answer .fields < 2 ^ Image.field-count
+
+-- The number is that of all runs, and the list is theirs.
+abbrev pub Reports-the-runs : Type 0
+Reports-the-runs =
+    (a b : List ℕ) → compare a b .answer .number ≡ 0
+    → (compare a b .answer .runs ≡ length (runs a b)) × (compare a b .runs ≡ places (runs a b))
+
+-- A byte of the memories differs exactly if it lies in one of the runs. (That these are maximal stretches, rising and apart, holds of any two
+-- memories: `differing_runs_claims`.)
+abbrev pub Covers-the-memories : Type 0
+Covers-the-memories =
+    (a b : List ℕ) (i : ℕ) → compare a b .answer .number ≡ 0
+    → (getD (Image.memory-of a) i 0 ≡ getD (Image.memory-of b) i 0 → ⊥)
+    ↔ ((r : Stretch) × Among (runs a b) r × (r .start ≤ i) × (i < end r))
+
+-- There are 8192 at most.
 abbrev pub At-most-8192 : Type 0
 At-most-8192 = (a b : List ℕ) → compare a b .answer .runs ≤ 8192
 

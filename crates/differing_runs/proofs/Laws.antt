@@ -89,7 +89,7 @@ unfolding numbers
 numbers-append [] b = refl
 numbers-append (r ∷ a) b = rw (numbers-append a b)
 
-numbers-length : (rs : List Stretch) → length (numbers rs) ≡ 2 * length rs
+pub numbers-length : (rs : List Stretch) → length (numbers rs) ≡ 2 * length rs
 unfolding numbers
 numbers-length [] = refl
 numbers-length (r ∷ rs) = rw (numbers-length rs) (omega arith)

@@ -1,11 +1,22 @@
 -- The claims: what was shown of the runs from any address on, at address 0.
+use Prim.Native.Nat.{zero, suc}
+use mathlib.Core.Path.{refl}
 use mathlib.Core.Bool.{false}
+use mathlib.Core.List.{[], _∷_}
 use native.Mathlib.Omega.{arith}
-use Rattle.differing_runs.specs.Runs.{runs-of}
-use Rattle.differing_runs_claims.specs.Claims.{Maximal-stretches, Rising-apart, Covers-exactly, Only-list, At-most-half, First-are-listed}
+use Rattle.differing_runs.specs.Runs.{differences, runs-of}
+use Rattle.differing_runs_claims.specs.Claims.{Byte-by-byte, Maximal-stretches, Rising-apart, Covers-exactly, Only-list, At-most-half, First-are-listed}
 use Rattle.differing_runs_claims.proofs.Runs.{run-is-maximal, covered, apart, halved}
 use Rattle.differing_runs_claims.proofs.Order.{one-list}
 use Rattle.differing_runs_claims.proofs.Places.{listing}
+
+pub byte-by-byte : Byte-by-byte
+unfolding differences
+byte-by-byte [] [] i h = refl
+byte-by-byte [] (y ∷ b) i h = absurd (omega arith)
+byte-by-byte (x ∷ a) [] i h = absurd (omega arith)
+byte-by-byte (x ∷ a) (y ∷ b) zero h = refl
+byte-by-byte (x ∷ a) (y ∷ b) (suc i) h = byte-by-byte a b i (omega arith)
 
 pub maximal-stretches : Maximal-stretches
 maximal-stretches = run-is-maximal

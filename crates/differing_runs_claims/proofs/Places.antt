@@ -6,13 +6,10 @@ use mathlib.Core.List.{List, [], _∷_, _++_}
 use native.Mathlib.Omega.{arith}
 use lib.ListN.{length, getD, take, replicate, length-append, length-take, length-replicate, List·getD-eq-default}
 use lib.Seq.{getD-take}
+use Rattle.memory.proofs.Zeros.{getD-then-zeros}
 use Rattle.differing_runs.specs.Runs.{Stretch, listed, numbers, places}
+use Rattle.differing_runs.proofs.Laws.{numbers-length}
 use Rattle.differing_runs_claims.specs.Claims.{Listed}
-
-numbers-length : (rs : List Stretch) → length (numbers rs) ≡ 2 * length rs
-unfolding numbers
-numbers-length [] = refl
-numbers-length (r ∷ rs) = omega (arith, numbers-length rs)
 
 numbers-at :
     (rs : List Stretch) (k : ℕ) (r : Stretch) → k < length rs
@@ -24,17 +21,9 @@ numbers-at (x ∷ rs) (suc k) r h =
     rw (let e : 2 * suc k ≡ suc (suc (2 * k)) = omega arith in e, let e : suc (suc (2 * k)) + 1 ≡ suc (suc (2 * k + 1)) = omega arith in e)
     (numbers-at rs k r (omega arith))
 
--- zeros after a list change none of its numbers, as a number past the end counts as 0
-then-zeros : (l : List ℕ) (n i : ℕ) → getD (l ++ replicate n 0) i 0 ≡ getD l i 0
-then-zeros [] zero i = refl
-then-zeros [] (suc n) zero = refl
-then-zeros [] (suc n) (suc i) = then-zeros [] n i
-then-zeros (x ∷ l) n zero = refl
-then-zeros (x ∷ l) n (suc i) = then-zeros l n i
-
 place : (rs : List Stretch) (i : ℕ) → getD (places rs) i 0 ≡ getD (numbers (take listed rs)) i 0
 unfolding places
-place rs i = then-zeros (numbers (take listed rs)) (2 * (listed - length rs)) i
+place rs i = getD-then-zeros (numbers (take listed rs)) (2 * (listed - length rs)) i
 
 kept : (rs : List Stretch) → length (numbers (take listed rs)) ≡ 2 * min listed (length rs)
 kept rs = numbers-length (take listed rs) ∙ ap (λ (n : ℕ). 2 * n) (length-take listed rs)

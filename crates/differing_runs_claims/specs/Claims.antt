@@ -2,14 +2,20 @@
 use Prim.Native.Nat.{ℕ, _+_, _*_, _<_, _≤_}
 use mathlib.Core.Path.{_≡_}
 use mathlib.Core.Logic.{_↔_}
-use mathlib.Core.Bool.{Bool, true, false}
+use mathlib.Core.Bool.{Bool, true, false, not}
 use mathlib.Core.List.{List}
 use lib.ListN.{length, getD}
-use Rattle.differing_runs.specs.Runs.{Stretch, runs-of, listed, places}
+use lib.Dec.{eqb}
+use Rattle.differing_runs.specs.Runs.{Stretch, differences, runs-of, listed, places}
 
 -- whether byte i differs
 abbrev pub differs : List Bool → ℕ → Bool
 differs d i = getD d i false
+
+-- Of two memories of one size it is told byte by byte.
+abbrev pub Byte-by-byte : Type 0
+Byte-by-byte =
+    (a b : List ℕ) (i : ℕ) → length a ≡ length b → differs (differences a b) i ≡ not (eqb (getD a i 0) (getD b i 0))
 
 -- the address after a stretch's last byte
 abbrev pub end : Stretch → ℕ

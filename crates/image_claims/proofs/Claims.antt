@@ -19,6 +19,7 @@ use Rattle.image_claims.specs.Claims.{Reads-what-was-written, renewed, W
 use Rattle.image_blocks.proofs.Parts.{memory-length}
 use Rattle.image_claims.proofs.Written.{read-written}
 use Rattle.image.proofs.Accepted.{Accepted, accepted}
+use Rattle.image.proofs.Answers.{reads, reads-not, read-number}
 use Rattle.image_claims.proofs.Accepted.{right, each-right, Sound, sound}
 use Rattle.image_claims.proofs.Read.{second-back, first-back, image-back}
 use Rattle.image_claims.proofs.Lowest.{Low, low, judged, wrong-check, right-check, wrong-number}
@@ -34,22 +35,10 @@ pub reads-what-was-written : Reads-what-was-written
 reads-what-was-written s m buffer other w f h _ b o = rw (writes s m buffer f h b) (read-written s m other w f h o)
 
 pub accepted-exactly : Accepted-exactly
-unfolding read
-accepted-exactly img m = by-test (eqb (read-fault img m .number) 0) refl
-  where
-    by-test : (t : Bool) → eqb (read-fault img m .number) 0 ≡ t → read img m .answer .number ≡ read-fault img m .number
-    by-test true e = rw e (sym (eqb-true (read-fault img m .number) 0 e))
-    by-test false e = rw e
+accepted-exactly = read-number
 
 pub accepted-editions : Accepted-editions
 accepted-editions img m h = sound img (accepted img m (sym (accepted-exactly img m) ∙ h) .image-right .content-right) .edition
-
--- an accepted read gives the state and the memory that the image holds
-reads :
-    (img m : List ℕ) → read-fault img m .number ≡ 0
-    → read img m ≡ record { answer = record { number = 0; block = 0; state = Image.state-of img }; memory = Image.memory-of img }
-unfolding read
-reads img m h = rw (eq-eqb (read-fault img m .number) 0 h)
 
 -- what was read of an accepted image is written as the image, with block 0 made anew
 module _ (img m : List ℕ) (bytes : Bytes img) (zero-read : read img m .answer .number ≡ 0) where
@@ -88,15 +77,10 @@ renews-the-first-edition img m bytes z e =
     rewritten img m bytes z (Image.checked (take 510 (put-word (put-word (Image.block-of img 0) 4 Image.edition) 30 no-rom)))
     (first-back img (known img m bytes z .image-right .image-sized) bytes (Image.memory-of img) (in-order img m bytes z) (each img m bytes z 0 (omega arith)) e)
 
--- a refused read hands on the number and the block that were found
-refused : (img m : List ℕ) → 0 < read-fault img m .number → read img m .answer .block ≡ read-fault img m .block
-unfolding read
-refused img m h = rw (ne-eqb (read-fault img m .number) 0 (omega arith))
-
 pub names-the-lowest : Names-the-lowest
 names-the-lowest img m above below =
     let number : read img m .answer .number ≡ read-fault img m .number = accepted-exactly img m in
-    let block : read img m .answer .block ≡ read-fault img m .block = refused img m (omega arith) in
+    let block : read img m .answer .block ≡ read-fault img m .block = rw (reads-not img m (λ e. omega arith)) in
     let first : read-fault img m ≡ first-fault img Image.block-count 0 = judged img m (omega arith) (omega arith) in
     let found : Low img Image.block-count 0 (first-fault img Image.block-count 0) = low img Image.block-count 0 (rw first at (let e : 0 < read-fault img m .number = omega arith in e)) in
     rw (number, block, first)

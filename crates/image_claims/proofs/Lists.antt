@@ -1,5 +1,4 @@
--- Zeros after a list, and a list cut into equal parts. A list that is padded with zeros has the same elements, since an element past the end
--- counts as 0.
+-- Zeros after a list, and a list cut into equal parts.
 use Prim.Native.Nat.{ℕ, zero, suc, min, _+_, _-_, _*_, _<_, _≤_}
 use mathlib.Core.Path.{_≡_, refl, sym, ap, _∙_}
 use mathlib.Core.List.{List, [], _∷_, _++_}
@@ -7,18 +6,9 @@ use native.Mathlib.Omega.{arith}
 use native.Mathlib.Nat.{mul-zero}
 use lib.ListN.{length, getD, take, drop, replicate, length-take, length-drop}
 use lib.Seq.{take-add, drop-drop, getD-take, getD-drop, ext-getD}
+use Rattle.memory.proofs.Zeros.{getD-then-zeros}
 use Rattle.image_blocks.specs.Image.{padded}
 use Rattle.image_blocks.proofs.Lists.{length-padded, joined}
-
-getD-zeros : (n i : ℕ) → _≡_ {A = ℕ} (getD (replicate n 0) i 0) 0
-getD-zeros zero i = refl
-getD-zeros (suc n) zero = refl
-getD-zeros (suc n) (suc i) = getD-zeros n i
-
-getD-then-zeros : (l : List ℕ) (n i : ℕ) → getD (l ++ replicate n 0) i 0 ≡ getD l i 0
-getD-then-zeros [] n i = getD-zeros n i
-getD-then-zeros (x ∷ l) n zero = refl
-getD-then-zeros (x ∷ l) n (suc i) = getD-then-zeros l n i
 
 pub getD-padded : (n : ℕ) (l : List ℕ) (i : ℕ) → getD (padded n l) i 0 ≡ getD l i 0
 unfolding padded

@@ -6,9 +6,9 @@ use native.Mathlib.Omega.{arith}
 use mir.Val.{boolByte}
 use lib.Dec.{eqb}
 use borrow.Author.Needs.{needs}
-use Rattle.bits.proofs.Laws.{one-if-byte}
+use Rattle.bits.proofs.Laws.{one-if-byte, one-if-below}
 use Rattle.comparison.specs.Compare.{fields-from}
-use Rattle.comparison.proofs.Weights.{at-most-one, fields-below}
+use Rattle.comparison.proofs.Weights.{fields-below}
 use Rattle.comparison.proofs.fields.Statement.{statement}
 use Rattle.comparison.proofs.fields.Tie as tie
 
@@ -22,7 +22,7 @@ abbrev μ-loop : tie.MeasureT-loop
 add-weights : tie.Need-add-weights Inv-loop μ-loop
 add-weights c =
     let differ = not (eqb (c .before .field .result) (c .field2 .result)) in
-    omega (arith, one-if-byte differ, at-most-one differ)
+    omega (arith, one-if-byte differ, one-if-below differ)
 
 loop-holds : tie.Need-loop-holds Inv-loop μ-loop
 unfolding fields-from
