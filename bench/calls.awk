@@ -36,7 +36,7 @@ function site(to) {
 }
 
 END {
-    last = roots = split("tms_run tms_read_image tms_write_image", reached, " ")
+    last = roots = split("tms_run tms_read_image tms_write_image tms_compare_images", reached, " ")
     for (i = 1; i <= last; i++) {
         for (k = 1; k <= pairs; k++) {
             if (caller[k] != reached[i]) continue

@@ -1,7 +1,7 @@
 ! The replay machine for a TMS 9980A with a TMS 9901, for Fortran. What is lent, what the answers mean and what a caller
 ! owes stands in tms_replay.h. The names are those of C, but for two arguments: `stop_at` is `stop` there, and
-! `block_number` is `block`. The places of a state's numbers, of a run's counts and of the numbers about a line are counted
-! from 1, in C from 0. Compile this file with the program, and link target/staticlib/libtms_replay.a, which
+! `block_number` is `block`. The places of a state's numbers, of a run's counts and of the numbers about a line or about two
+! images are counted from 1, in C from 0. Compile this file with the program, and link target/staticlib/libtms_replay.a, which
 ! `rt staticlib tms_replay` writes.
 
 module tms_replay
@@ -9,9 +9,10 @@ module tms_replay
   implicit none
 
   ! Sizes: the memory's and an image's bytes, the bytes that a line may need, a state's numbers, a run's counts, the
-  ! numbers about a line.
+  ! numbers about a line, those about two images, the runs of differing bytes that are listed and the places that these take.
   integer(c_size_t), parameter :: tms_memory_size = 16384, tms_image_size = 17408, tms_line_size = 48
-  integer, parameter :: tms_state_words = 13, tms_counts = 4, tms_line_answer = 2
+  integer, parameter :: tms_state_words = 13, tms_counts = 4, tms_line_answer = 2, tms_compare_answer = 4, &
+      tms_listed_runs = 256, tms_run_places = 512
 
   ! The numbers of a state, from 0 to 65535 each but for the last; flags are at most 2 (1: idle, 2: the next boundary takes
   ! no sample). The last is where the read-only part begins, an even number of at most tms_no_rom, which means none.
@@ -29,6 +30,13 @@ module tms_replay
 
   ! The numbers about a line.
   integer, parameter :: tms_length = 1, tms_words = 2
+
+  ! The numbers about two images: the image and the block that a refusal names, the fields that differ (bit k for field k),
+  ! how many runs of differing bytes there are.
+  integer, parameter :: tms_of_image = 1, tms_block = 2, tms_differing_fields = 3, tms_runs = 4
+
+  ! The fields of block 0, numbered from 0 by their words, as bits are; number n of a state, counted from 1, is field n + 1.
+  integer, parameter :: tms_field_format = 0, tms_field_edition = 1, tms_field_state = 2
 
   ! The answers.
   integer(c_int16_t), parameter :: tms_accepted = 0, tms_memory = 1, tms_state = 2, tms_records = 3, tms_image = 5, &
@@ -87,6 +95,17 @@ module tms_replay
       integer(c_size_t), value :: text_len
       integer(c_int32_t), intent(out) :: answer(tms_line_answer)
       integer(c_int16_t) :: tms_list
+    end function
+
+    function tms_compare_images(first, first_len, second, second_len, answer, runs) bind(c)
+      import
+      integer(c_int8_t), intent(in) :: first(*)
+      integer(c_size_t), value :: first_len
+      integer(c_int8_t), intent(in) :: second(*)
+      integer(c_size_t), value :: second_len
+      integer(c_int32_t), intent(out) :: answer(tms_compare_answer)
+      integer(c_int32_t), intent(out) :: runs(tms_run_places)
+      integer(c_int16_t) :: tms_compare_images
     end function
   end interface
 end module

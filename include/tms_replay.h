@@ -4,13 +4,14 @@
 
    Memory, image, records and text are lent: a pointer and the number of elements. A refusal
    changes nothing that is lent, and a slice that is `const` is never changed. `state` after power
-   up and after reading an image, `counts`, `block` and `answer` are places for the answer: whatever
-   is in them is replaced, on a refusal too. `state` of a run goes in and comes out: a refusal
-   leaves it as it was given, bit for bit.
+   up and after reading an image, `counts`, `block`, `answer` and `runs` are places for the answer:
+   whatever is in them is replaced, on a refusal too. `state` of a run goes in and comes out: a
+   refusal leaves it as it was given, bit for bit.
 
    What a caller owes: no pointer is null, not even that of an empty slice; each is aligned for its
    type; what is changed overlaps nothing else of the same call; `state` has 13 elements, `counts`
-   has 4 and `answer` 2. Nothing is kept after a call, and nothing is allocated.
+   has 4, `answer` 2 about a line and 4 about two images, and `runs` 512. The two images of a
+   comparison may be the same bytes. Nothing is kept after a call, and nothing is allocated.
 
    The contracts of the functions, proved for all arguments, stand in
    crates/tms_replay/src/exported.rt, the definitions that they cite in
@@ -28,13 +29,17 @@ extern "C" {
 #endif
 
 /* Sizes: the memory's and an image's bytes, the bytes that a line may need, a state's numbers, a
-   run's counts, the numbers about a line. */
+   run's counts, the numbers about a line, those about two images, the runs of differing bytes that
+   are listed and the places that these take. */
 #define TMS_MEMORY_SIZE 16384
 #define TMS_IMAGE_SIZE 17408
 #define TMS_LINE_SIZE 48
 #define TMS_STATE_WORDS 13
 #define TMS_COUNTS 4
 #define TMS_LINE_ANSWER 2
+#define TMS_COMPARE_ANSWER 4
+#define TMS_LISTED_RUNS 256
+#define TMS_RUN_PLACES 512
 
 /* The numbers of a state, in elements of 32 bits: all have 16 bits but the last, which has 32. */
 enum {
@@ -85,6 +90,22 @@ enum {
   TMS_WORDS   /* the words that its instruction takes, 1 to 3 */
 };
 
+/* The numbers about two images. */
+enum {
+  TMS_OF_IMAGE,         /* the image that a refusal names, 1 or 2; else 0 */
+  TMS_BLOCK,            /* the block that a refusal names; else 0 */
+  TMS_DIFFERING_FIELDS, /* the fields of block 0 that differ, weight 2^k for field k, below */
+  TMS_RUNS              /* how many runs of differing bytes the memories have, 0 to 8192 */
+};
+
+/* The fields of an image's block 0, numbered by their words. An image of edition 1 counts as having
+   TMS_NO_ROM in its last. The format word of two accepted images never differs. */
+enum {
+  TMS_FIELD_FORMAT,
+  TMS_FIELD_EDITION,
+  TMS_FIELD_STATE /* the first of a state's numbers: number n of the state is field n + 2 */
+};
+
 /* The answers, checked in the order that each function names. */
 enum {
   TMS_ACCEPTED = 0,
@@ -131,6 +152,16 @@ uint16_t tms_write_image(const uint32_t state[TMS_STATE_WORDS], const uint8_t *m
    zeros. Answers 1, 11, 0. */
 uint16_t tms_list(const uint8_t *memory, size_t memory_len, uint16_t address, uint8_t *text,
                   size_t text_len, uint32_t answer[TMS_LINE_ANSWER]);
+
+/* Compares two images, of one edition or of two. Leaves in `answer` which fields of block 0 differ
+   and how many runs of differing bytes the memories have, and in `runs` start and length of the
+   first 256 runs, in rising order, with zeros in the places that are left. A run is as long as it
+   can be: no two touch. A refusal leaves the image, and for 6 and 7 the block, in `answer`, and
+   zeros in all other places, those of `runs` too. Answers 5, then 6 and 7 block by block, 8, 9 for
+   the first image, the same for the second, 0. */
+uint16_t tms_compare_images(const uint8_t *first, size_t first_len, const uint8_t *second,
+                            size_t second_len, uint32_t answer[TMS_COMPARE_ANSWER],
+                            uint32_t runs[TMS_RUN_PLACES]);
 
 #ifdef __cplusplus
 }

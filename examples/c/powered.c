@@ -1,6 +1,6 @@
 /* Powers up on a memory with vectors and a small program, lists it, runs it, carries the machine
-   through an image, runs on, makes a part read-only, is interrupted, and is refused in several
-   ways. */
+   through an image, runs on, compares images, makes a part read-only, is interrupted, and is
+   refused in several ways. */
 
 #include <inttypes.h>
 #include <stdio.h>
@@ -10,12 +10,15 @@
 
 static uint8_t memory[TMS_MEMORY_SIZE];
 static uint8_t image[TMS_IMAGE_SIZE];
+static uint8_t later[TMS_IMAGE_SIZE];
 static uint32_t state[TMS_STATE_WORDS];
 static uint64_t counts[TMS_COUNTS];
 static uint32_t records[8];
 static uint32_t block;
 static uint8_t text[TMS_LINE_SIZE];
 static uint32_t listed[TMS_LINE_ANSWER];
+static uint32_t compared[TMS_COMPARE_ANSWER];
+static uint32_t runs[TMS_RUN_PLACES];
 
 static void put(uint16_t at, uint16_t word) {
   memory[at] = word >> 8;
@@ -45,6 +48,20 @@ static void line(uint16_t answer) {
 
 static uint16_t run(size_t steps) {
   return tms_run(memory, sizeof memory, state, records, 8, steps, 1, counts);
+}
+
+/* The image and the later one: fields by their numbers, runs by their addresses. */
+static void compare(size_t later_len) {
+  uint16_t answer = tms_compare_images(image, sizeof image, later, later_len, compared, runs);
+  printf("compare %u image %" PRIu32 " block %" PRIu32 " fields", answer, compared[TMS_OF_IMAGE],
+         compared[TMS_BLOCK]);
+  for (int k = 0; k < TMS_FIELD_STATE + TMS_STATE_WORDS; k++)
+    if (compared[TMS_DIFFERING_FIELDS] >> k & 1)
+      printf(" %d", k);
+  printf(" runs %" PRIu32, compared[TMS_RUNS]);
+  for (uint32_t n = 0; n < compared[TMS_RUNS] && n < TMS_LISTED_RUNS; n++)
+    printf(" %04" PRIX32 "-%04" PRIX32, runs[2 * n], runs[2 * n] + runs[2 * n + 1] - 1);
+  puts("");
 }
 
 int main(void) {
@@ -81,6 +98,12 @@ int main(void) {
   printf("wrote %u read %u block %" PRIu32 "\n", wrote, read, block);
   line(run(2));
 
+  /* What these steps changed: PC, ST, and both bytes of R2. An image and itself: nothing. */
+  wrote = tms_write_image(state, memory, sizeof memory, later, sizeof later);
+  compare(sizeof later);
+  memcpy(later, image, sizeof later);
+  compare(sizeof later);
+
   /* From R2 on everything is read-only: A R1,R2 sets the status, and R2 keeps its 8000h. */
   state[TMS_ROM] = 0x0304;
   state[TMS_PC] = 0x0108;
@@ -113,8 +136,15 @@ int main(void) {
   wrote = tms_write_image(state, memory, sizeof memory, image, sizeof image);
   printf("wrote %u st %" PRIu32 "\n", wrote, state[TMS_ST]);
 
-  /* A damaged block, and a short image: the blank state comes back, with nothing read-only. */
+  /* The second image with a damaged block, then a byte short; then the first has that block too,
+     which comes before anything of the second. */
+  later[3 * 512 + 10] ^= 1;
+  compare(sizeof later);
+  compare(sizeof later - 1);
   image[3 * 512 + 10] ^= 1;
+  compare(sizeof later - 1);
+
+  /* A damaged block, and a short image: the blank state comes back, with nothing read-only. */
   read = tms_read_image(image, sizeof image, memory, sizeof memory, state, &block);
   printf("read %u block %" PRIu32 " pc %04" PRIX32 "\n", read, block, state[TMS_PC]);
   read = tms_read_image(image, sizeof image - 1, memory, sizeof memory, state, &block);

@@ -1,5 +1,6 @@
 ! Powers up on a memory with a reset vector and a small program, lists it, runs it, carries the machine through an image,
-! runs on, makes a part read-only, and is refused in several ways. The module tms_replay is include/tms_replay.f90.
+! runs on, compares images, makes a part read-only, and is refused in several ways. The module tms_replay is
+! include/tms_replay.f90.
 
 program powered
   use, intrinsic :: iso_c_binding
@@ -7,13 +8,14 @@ program powered
   implicit none
 
   integer(c_int8_t) :: memory(0:tms_memory_size - 1) = 0
-  integer(c_int8_t) :: image(0:tms_image_size - 1) = 0
+  integer(c_int8_t) :: image(0:tms_image_size - 1) = 0, later(0:tms_image_size - 1) = 0
   integer(c_int32_t) :: state(tms_state_words) = 0
   integer(c_int64_t) :: counts(tms_counts) = 0
   integer(c_int32_t) :: records(8)
   integer(c_int32_t) :: block_number
   integer(c_int8_t) :: text(tms_line_size) = 0
   integer(c_int32_t) :: listed(tms_line_answer)
+  integer(c_int32_t) :: compared(tms_compare_answer), runs(tms_run_places)
   integer(c_int16_t) :: answer, address
 
   ! The reset vector, then: LI R1,7FFFh; LI R2,1; A R1,R2; an unassigned word.
@@ -48,6 +50,10 @@ program powered
   call read_image(tms_image_size)
   call run(2)
 
+  ! What these steps changed: PC, ST, and both bytes of R2.
+  answer = tms_write_image(state, memory, tms_memory_size, later, tms_image_size)
+  call compare(tms_image_size)
+
   ! From R2 on everything is read-only: A R1,R2 sets the status, and R2 keeps its 8000h.
   state(tms_rom) = int(z'0304', c_int32_t)
   state(tms_pc) = int(z'0108', c_int32_t)
@@ -70,6 +76,9 @@ program powered
   print '(13(i0, 1x))', state
   answer = tms_write_image(state, memory, tms_memory_size, image, tms_image_size)
   print '(a, i0)', 'wrote ', answer
+  later(3 * 512 + 10) = not(later(3 * 512 + 10))
+  call compare(tms_image_size)
+  call compare(tms_image_size - 1)
   image(3 * 512 + 10) = not(image(3 * 512 + 10))
   call read_image(tms_image_size)
   call read_image(tms_image_size - 1)
@@ -111,6 +120,18 @@ contains
 
     answer = tms_read_image(image, length, memory, tms_memory_size, state, block_number)
     print '(a, i0, a, i0, a, i0)', 'read ', answer, ' block ', block_number, ' pc ', state(tms_pc)
+  end subroutine
+
+  ! The image and the later one: the fields by their numbers, then the first run.
+  subroutine compare(length)
+    integer(c_size_t), intent(in) :: length
+    integer :: k
+
+    answer = tms_compare_images(image, tms_image_size, later, length, compared, runs)
+    print '(a, i0, a, i0, a, i0, a, *(1x, i0))', 'compare ', answer, ' image ', compared(tms_of_image), ' block ', &
+        compared(tms_block), ' fields', pack([(k, k = 0, tms_field_state + tms_state_words - 1)], &
+        [(btest(compared(tms_differing_fields), k), k = 0, tms_field_state + tms_state_words - 1)])
+    print '(a, i0, a, i0, a, i0)', 'runs ', compared(tms_runs), ' first ', runs(1), ' length ', runs(2)
   end subroutine
 
   ! The numbers of a state are never negative, so they print as they are.
