@@ -31,14 +31,22 @@ runs a b = runs-of (differences (Image.memory-of a) (Image.memory-of b))
 
 pub record Compared : Type 0 where
   pub answer : CompareAnswer
-  pub runs : List ℕ
+  pub list : List ℕ
 
 -- a refusal names its image, 1 or 2, and its block; all else is 0, and no run is listed
 abbrev pub refused : ℕ → Fault → Compared
 refused image f =
     record {
       answer = record { number = f .number; image = image; block = f .block; fields = 0; runs = 0 };
-      runs = places [];
+      list = places [];
+    }
+
+-- an accepted comparison
+abbrev pub accepted : List ℕ → List ℕ → Compared
+accepted a b =
+    record {
+      answer = record { number = 0; image = 0; block = 0; fields = fields a b; runs = length (runs a b) };
+      list = places (runs a b);
     }
 
 -- Whatever is wrong with the first image comes before anything of the second.
@@ -46,8 +54,4 @@ unfoldable pub compare : List ℕ → List ℕ → Compared
 compare a b =
     if not (eqb (image-fault a .number) 0) then refused 1 (image-fault a)
     else if not (eqb (image-fault b .number) 0) then refused 2 (image-fault b)
-    else
-    record {
-      answer = record { number = 0; image = 0; block = 0; fields = fields a b; runs = length (runs a b) };
-      runs = places (runs a b);
-    }
+    else accepted a b

@@ -1,6 +1,6 @@
 // What differs between two images: the fields of block 0, and the runs of differing bytes of their memories.
 ghost use mathlib.Core.Path.{_≡_};
-ghost use Prim.Native.Nat.{_+_, _<_, _≤_};
+ghost use Prim.Native.Nat.{_<_};
 ghost use mathlib.Core.List.{[]};
 ghost use lib.ListN.{length};
 ghost use Rattle.differing_runs.specs.Runs as Runs;
@@ -20,7 +20,7 @@ pub struct CompareAnswer {
     pub runs: u32,
 }
 
-// Field `k` as it is compared: edition 1's read-only address is none.
+// Field `k` as it is compared: edition 1 counts as having 16384, which means none, as its read-only address.
 fn field(image: &[u8], k: usize) -> u32
     requires { ⌜ length (now image) ≡ Image.image-size ⌝ }
     requires { ⌜ k < Image.field-count ⌝ }
@@ -32,7 +32,7 @@ fn field(image: &[u8], k: usize) -> u32
     image_blocks::field(image, k) as u32
 }
 
-// Which fields differ, from the last to the first.
+// Weight 2^k for each field k that differs; the last is taken first.
 fn fields(first: &[u8], second: &[u8]) -> u32
     requires { ⌜ length (now first) ≡ Image.image-size ⌝ }
     requires { ⌜ length (now second) ≡ Image.image-size ⌝ }
@@ -85,7 +85,7 @@ fn refused(image: u16, fault: Fault) -> CompareAnswer
 // Compares two images. The places get start and length of the first 256 runs, and zeros where there are fewer; on a refusal zeros.
 pub fn compare_images(first: &[u8], second: &[u8], list: &mut [u32; PLACES]) -> CompareAnswer
     ensures { λ r. ⌜ r ≡ Compare.compare (now (first .entry)) (now (second .entry)) .answer ⌝ }
-    ensures { λ _. ⌜ now (list .exit) ≡ Compare.compare (now (first .entry)) (now (second .entry)) .runs ⌝ }
+    ensures { λ _. ⌜ now (list .exit) ≡ Compare.compare (now (first .entry)) (now (second .entry)) .list ⌝ }
 {
     *list = [0; PLACES];
     let of_first = image::image_fault(first);

@@ -12,11 +12,12 @@ use Rattle.differing_runs_claims.proofs.Claims.{at-most-half}
 use Rattle.image_blocks.specs.Image as Image
 use Rattle.image_blocks.proofs.Parts.{memory-length}
 use Rattle.image.specs.Calls.{ReadResult}
-use Rattle.image.proofs.Accepted.{sound}
+use Rattle.image.proofs.Accepted.{faultless}
+use Rattle.image_claims.proofs.Accepted as Content
 use Rattle.comparison.specs.Compare.{runs}
 use Rattle.comparison.proofs.Weights.{fields-below}
-use Rattle.comparison_claims.specs.Claims.{Refuses-as-reading, Refused-reports-nothing, Fields-exactly, No-other-bit, Reports-the-runs, Covers-the-memories, At-most-8192, Itself, Exchanges, Read-alike}
-use Rattle.comparison_claims.proofs.Fields.{field-bit, no-weight, states}
+use Rattle.comparison_claims.specs.Claims.{Refuses-as-reading, Refused-reports-nothing, Fields-exactly, No-other-bit, Reports-the-runs, Covers-the-memories, At-most-8192, Itself, Exchanges, Read-alike, Edition-alone}
+use Rattle.comparison_claims.proofs.Fields.{field-bit, no-weight, states, lower}
 use Rattle.comparison_claims.proofs.Memories.{memories, covered}
 use Rattle.comparison_claims.proofs.Exchanged.{fields-exchanged, differences-exchanged}
 use Rattle.comparison_claims.proofs.Outcomes.{Accepted, refused-first, refused-second, refused-neither, first, second, neither, outcome, both-accepted, no-places, reads-whole, reads-nothing, read-answer}
@@ -51,7 +52,7 @@ no-other-bit a b =
     ]
 
 memory-size : (img : List ℕ) → Accepted img → length (Image.memory-of img) ≡ size
-memory-size img yes-img = memory-length img (sound img yes-img .image-sized)
+memory-size img yes-img = memory-length img (faultless img yes-img .image-sized)
 
 same-size : (a b : List ℕ) → Accepted a → Accepted b → length (Image.memory-of a) ≡ length (Image.memory-of b)
 same-size a b yes-a yes-b = memory-size a yes-a ∙ sym (memory-size b yes-b)
@@ -109,3 +110,11 @@ read-alike a b m h z =
       λ (e, f). rw (states a b .0 e, contents .0 f),
       λ e. (states a b .1 (ap (λ (r : ReadResult). r .answer .state) e), contents .1 (ap (λ (r : ReadResult). r .memory) e)),
     )
+
+format : (img : List ℕ) → Accepted img → Image.field-of img 0 ≡ Image.format
+format img yes-img = Content.sound img (faultless img yes-img .content-right) .format
+
+pub edition-alone : Edition-alone
+edition-alone a b z e =
+    let (yes-a, yes-b) = both-accepted a b z in
+    rw (refused-neither a b yes-a yes-b) (lower a b (format a yes-a ∙ sym (format b yes-b)) (states a b .1 e))

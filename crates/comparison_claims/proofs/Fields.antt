@@ -73,3 +73,12 @@ states a b = (
   λ e. state-alike a b (all-alike a b 13 2 (sym (upper a b) ∙ e)),
   λ e. upper a b ∙ no-weight a b 13 2 (state-words a ∙ ap Image.fields e ∙ sym (state-words b)),
 )
+
+-- the two weights below 4
+pub lower :
+    (a b : List ℕ) → Image.field-of a 0 ≡ Image.field-of b 0 → fields a b / 4 ≡ 0
+    → fields a b ≡ 2 * one-if (not (eqb (Image.field-of a 1) (Image.field-of b 1)))
+unfolding fields-from field
+lower a b f e =
+    let none : fields-from a b 13 2 ≡ 0 = sym (upper a b) ∙ e in
+    rw (eq-eqb (Image.field-of a 0) (Image.field-of b 0) f) (omega (arith, none, one-if-below (not (eqb (Image.field-of a 1) (Image.field-of b 1)))))

@@ -13,18 +13,10 @@ use Rattle.image_blocks.specs.Image as Image
 use Rattle.image.specs.declared.Fault.{Fault}
 use Rattle.image.specs.Calls.{image-fault, read-fault, read}
 use Rattle.image.proofs.Answers.{alone, reads, reads-not, read-number}
-use Rattle.comparison.specs.Compare.{Compared, fields, runs, refused, compare}
+use Rattle.comparison.specs.Compare.{refused, accepted, compare}
 
 abbrev pub Accepted : List ℕ → Type 0
 Accepted img = image-fault img .number ≡ 0
-
--- the answer where neither is refused
-abbrev pub compared : List ℕ → List ℕ → Compared
-compared a b =
-    record {
-      answer = record { number = 0; image = 0; block = 0; fields = fields a b; runs = length (runs a b) };
-      runs = places (runs a b);
-    }
 
 pub refused-first : (a b : List ℕ) → ¬ Accepted a → compare a b ≡ refused 1 (image-fault a)
 unfolding compare
@@ -34,7 +26,7 @@ pub refused-second : (a b : List ℕ) → Accepted a → ¬ Accepted b → compa
 unfolding compare
 refused-second a b yes-a no-b = rw (eq-eqb (image-fault a .number) 0 yes-a, ne-eqb (image-fault b .number) 0 no-b)
 
-pub refused-neither : (a b : List ℕ) → Accepted a → Accepted b → compare a b ≡ compared a b
+pub refused-neither : (a b : List ℕ) → Accepted a → Accepted b → compare a b ≡ accepted a b
 unfolding compare
 refused-neither a b yes-a yes-b = rw (eq-eqb (image-fault a .number) 0 yes-a, eq-eqb (image-fault b .number) 0 yes-b)
 

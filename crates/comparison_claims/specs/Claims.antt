@@ -1,12 +1,12 @@
 -- What is claimed of comparing images (document 02, Q-8).
-use Prim.Native.Nat.{ℕ, _/_, _^_, _≤_, _<_}
+use Prim.Native.Nat.{ℕ, _*_, _/_, _^_, _≤_, _<_}
 use mathlib.Core.Path.{_≡_}
 use mathlib.Core.Logic.{_↔_}
 use mathlib.Core.Bool.{not}
 use mathlib.Core.List.{List}
 use lib.ListN.{length, getD, replicate}
 use lib.Dec.{eqb}
-use Rattle.bits.specs.Bits.{if_then_else_, bit}
+use Rattle.bits.specs.Bits.{if_then_else_, one-if, bit}
 use Rattle.memory.specs.Memory.{size}
 use Rattle.differing_runs.specs.Runs.{Stretch, places}
 use Rattle.differing_runs_claims.specs.Claims.{end, Among}
@@ -33,7 +33,7 @@ Refuses-as-reading = (a b m : List ℕ) → length m ≡ size → As-reading a b
 abbrev pub Refused-reports-nothing : Type 0
 Refused-reports-nothing =
     (a b : List ℕ) → (compare a b .answer .number ≡ 0 → ⊥)
-    → (compare a b .answer .fields ≡ 0) × (compare a b .answer .runs ≡ 0) × (compare a b .runs ≡ replicate 512 0)
+    → (compare a b .answer .fields ≡ 0) × (compare a b .answer .runs ≡ 0) × (compare a b .list ≡ replicate 512 0)
 
 -- The bit of weight 2^k is set exactly if field k differs.
 abbrev pub Fields-exactly : Type 0
@@ -49,7 +49,7 @@ No-other-bit = (a b : List ℕ) → compare a b .answer .fields < 2 ^ Image.fiel
 abbrev pub Reports-the-runs : Type 0
 Reports-the-runs =
     (a b : List ℕ) → compare a b .answer .number ≡ 0
-    → (compare a b .answer .runs ≡ length (runs a b)) × (compare a b .runs ≡ places (runs a b))
+    → (compare a b .answer .runs ≡ length (runs a b)) × (compare a b .list ≡ places (runs a b))
 
 -- A byte of the memories differs exactly if it lies in one of the runs. (That these are maximal stretches, rising and apart, holds of any two
 -- memories: `differing_runs_claims`.)
@@ -68,7 +68,7 @@ abbrev pub Itself : Type 0
 Itself =
     (a : List ℕ) → image-fault a .number ≡ 0
     → compare a a
-    ≡ record { answer = record { number = 0; image = 0; block = 0; fields = 0; runs = 0 }; runs = replicate 512 0 }
+    ≡ record { answer = record { number = 0; image = 0; block = 0; fields = 0; runs = 0 }; list = replicate 512 0 }
 
 -- the other image
 abbrev pub other : ℕ → ℕ
@@ -84,7 +84,7 @@ exchanged c =
         fields = c .answer .fields;
         runs = c .answer .runs;
       };
-      runs = c .runs;
+      list = c .list;
     }
 
 -- Exchanging two images, not both of them refused, exchanges nothing but the image that a refusal names. (Where both are, each order tells of
@@ -100,3 +100,9 @@ abbrev pub Read-alike : Type 0
 Read-alike =
     (a b m : List ℕ) → length m ≡ size → compare a b .answer .number ≡ 0
     → ((compare a b .answer .fields / 4 ≡ 0) × (compare a b .answer .runs ≡ 0)) ↔ (read a m ≡ read b m)
+
+-- Two accepted images that hold one state differ in the edition, of weight 2, or in no field.
+abbrev pub Edition-alone : Type 0
+Edition-alone =
+    (a b : List ℕ) → compare a b .answer .number ≡ 0 → Image.state-of a ≡ Image.state-of b
+    → compare a b .answer .fields ≡ 2 * one-if (not (eqb (Image.field-of a 1) (Image.field-of b 1)))

@@ -1,7 +1,7 @@
 -- Bytes more at the end: those that agree change no run; those that differ make one run, or make the last one longer, which is listed in the
 -- same places.
 use Prim.Native.Nat.{ℕ, zero, suc, _+_, _-_, _*_, _<_, _≤_}
-use mathlib.Core.Path.{_≡_, refl, sym, ap, ap₂, _∙_}
+use mathlib.Core.Path.{_≡_, refl, sym, ap, _∙_}
 use mathlib.Core.Bool.{Bool, true, false, true≢false}
 use mathlib.Core.List.{List, [], _∷_, _++_, append-assoc, append-nil}
 use native.Mathlib.Omega.{arith}
@@ -9,8 +9,8 @@ use native.Mathlib.Nat.{zero-add, add-zero}
 use native.Mathlib.Numerals.{add-one}
 use borrow.Author.Tests.{ltb-true, ltb-false}
 use lib.Dec.{ltb}
-use lib.ListN.{length, take, set, replicate, length-append, length-replicate, replicate-append-replicate}
-use lib.Seq.{take-all, take-append-le, set-at}
+use lib.ListN.{length, set, replicate, length-append, length-replicate, replicate-append-replicate}
+use lib.Seq.{take-all, take-append-le}
 use Rattle.differing_runs.specs.Runs.{Stretch, extent, runs-from, runs-of, numbers, places}
 use Rattle.differing_runs.specs.Scan.{put-run, closed, Holds}
 use Rattle.differing_runs.specs.declared.Found.{Found}

@@ -23,7 +23,8 @@ unfoldable pub closed : Bool → List Bool → Bool
 closed before [] = not before
 closed before (d ∷ ds) = closed d ds
 
--- Of the bytes so far: how many runs end in one that agrees, how many differ at their end, and the list of their runs.
+-- The bytes so far are some that do not end in a differing one, and then `length` that differ; `ended` counts the runs of the former; the list
+-- is that of all.
 pub record Holds (seen : List Bool) (found : Found) (list : List ℕ) : Type 0 where
   pub earlier : List Bool
   pub ends : closed false earlier ≡ true

@@ -1,4 +1,4 @@
-// Runs of bytes that differ between two memories, found in one pass and listed in lent places.
+// Runs of bytes that differ between two memories, found from byte 0 on, part by part, and listed in lent places.
 ghost use mathlib.Core.Path.{_≡_};
 ghost use mathlib.Core.Bool.{Bool, false};
 ghost use mathlib.Core.List.{List, [], _∷_, _++_};
@@ -73,12 +73,12 @@ fn same(first: &[u8], second: &[u8]) -> bool
 }
 
 // Puts run `n`, counted from 0, into its places, if it is listed.
-fn put_run(list: &mut [u32; PLACES], n: usize, start: u32, length: u32)
-    ensures { λ _. ⌜ now (list .exit) ≡ put-run (now (list .entry)) n start length ⌝ }
+fn put_run(list: &mut [u32; PLACES], n: usize, start: u32, size: u32)
+    ensures { λ _. ⌜ now (list .exit) ≡ put-run (now (list .entry)) n start size ⌝ }
 {
     if n < LISTED {
         list[2 * n] = start;
-        list[2 * n + 1] = length;
+        list[2 * n + 1] = size;
     }
 }
 

@@ -7,10 +7,7 @@ use mathlib.Core.List.{List, [], _∷_}
 use native.Mathlib.Omega.{arith}
 use lib.ListN.{length}
 use Rattle.differing_runs.specs.Runs.{Stretch}
-use Rattle.differing_runs_claims.specs.Claims.{stretch, Among}
-
-abbrev pub Rising : List Stretch → Type 0
-Rising l = (j k : ℕ) → j < k → k < length l → stretch l j .start < stretch l k .start
+use Rattle.differing_runs_claims.specs.Claims.{stretch, Among, Rising}
 
 first-or-other : (x : Stretch) (l : List Stretch) (r : Stretch) → Among (x ∷ l) r → (x ≡ r) ⊎ Among l r
 first-or-other x l r (zero, h, e) = inl e

@@ -2,9 +2,9 @@
 -- places all are 0.
 use Prim.Native.Nat.{ℕ, zero, suc, min, _+_, _-_, _*_, _<_}
 use mathlib.Core.Path.{_≡_, refl, ap, _∙_}
-use mathlib.Core.List.{List, [], _∷_, _++_}
+use mathlib.Core.List.{List, [], _∷_}
 use native.Mathlib.Omega.{arith}
-use lib.ListN.{length, getD, take, replicate, length-append, length-take, length-replicate, List·getD-eq-default}
+use lib.ListN.{length, getD, take, length-append, length-take, length-replicate, List·getD-eq-default}
 use lib.Seq.{getD-take}
 use Rattle.memory.proofs.Zeros.{getD-then-zeros}
 use Rattle.differing_runs.specs.Runs.{Stretch, listed, numbers, places}

@@ -12,7 +12,7 @@ use Rattle.differing_runs.specs.Runs.{Stretch, differences, runs-of, listed, pl
 abbrev pub differs : List Bool → ℕ → Bool
 differs d i = getD d i false
 
--- Of two memories of one size it is told byte by byte.
+-- A byte differs exactly if two memories, of one size, have different numbers there.
 abbrev pub Byte-by-byte : Type 0
 Byte-by-byte =
     (a b : List ℕ) (i : ℕ) → length a ≡ length b → differs (differences a b) i ≡ not (eqb (getD a i 0) (getD b i 0))
@@ -36,6 +36,10 @@ stretch l k = getD l k (record { start = 0; length = 0 })
 abbrev pub Among : List Stretch → Stretch → Type 0
 Among l r = (k : ℕ) × (k < length l) × (stretch l k ≡ r)
 
+-- a list whose stretches start one after the other
+abbrev pub Rising : List Stretch → Type 0
+Rising l = (j k : ℕ) → j < k → k < length l → stretch l j .start < stretch l k .start
+
 -- run k
 abbrev pub run : List Bool → ℕ → Stretch
 run d k = stretch (runs-of d) k
@@ -52,7 +56,7 @@ Maximal-stretches = (d : List Bool) (r : Stretch) → Is-run d r ↔ Maximal d r
 abbrev pub Rising-apart : Type 0
 Rising-apart = (d : List Bool) (j k : ℕ) → j < k → k < length (runs-of d) → end (run d j) < run d k .start
 
--- Together they cover all differing bytes and nothing else.
+-- A byte differs exactly if it lies in a run.
 abbrev pub Covers-exactly : Type 0
 Covers-exactly =
     (d : List Bool) (i : ℕ)
@@ -61,12 +65,12 @@ Covers-exactly =
 -- A list that rises and has the maximal stretches and no others is the list of runs: nothing else could have been meant.
 pub record Lists (d : List Bool) (l : List Stretch) : Type 0 where
   pub maximal : (r : Stretch) → Among l r ↔ Maximal d r
-  pub rising : (j k : ℕ) → j < k → k < length l → stretch l j .start < stretch l k .start
+  pub rising : Rising l
 
 abbrev pub Only-list : Type 0
 Only-list = (d : List Bool) (l : List Stretch) → Lists d l → l ≡ runs-of d
 
--- Of n bytes, n + 1 halved are in runs of their own at most.
+-- n bytes have at most (n + 1) / 2 runs.
 abbrev pub At-most-half : Type 0
 At-most-half = (d : List Bool) → 2 * length (runs-of d) ≤ length d + 1
 

@@ -20,14 +20,14 @@ pub passed : {A : Type 0} (number : A → ℕ) (b : Bool) (x y : A) → (number 
 passed number true x y c h = (refl, h)
 passed number false x y c h = absurd (true≢false (sym (c h)))
 
-pub record Sound (img : List ℕ) : Type 0 where
+pub record Faultless (img : List ℕ) : Type 0 where
   pub image-sized : length img ≡ Image.image-size
   pub blocks-right : first-fault img Image.block-count 0 .number ≡ 0
   pub content-right : content-fault img ≡ 0
 
-pub sound : (img : List ℕ) → image-fault img .number ≡ 0 → Sound img
+pub faultless : (img : List ℕ) → image-fault img .number ≡ 0 → Faultless img
 unfolding image-fault
-sound img h =
+faultless img h =
     let number : Fault → ℕ = λ f. f .number in
     let first : Fault = first-fault img Image.block-count 0 in
     let last : Fault = fault (content-fault img) in
@@ -42,13 +42,13 @@ sound img h =
 
 pub record Accepted (img m : List ℕ) : Type 0 where
   pub memory-sized : length m ≡ size
-  pub image-right : Sound img
+  pub image-right : Faultless img
 
 pub accepted : (img m : List ℕ) → read-fault img m .number ≡ 0 → Accepted img m
 unfolding read-fault
 accepted img m h =
     let one = passed (λ (f : Fault). f .number) (eqb (length m) size) (fault 1) (image-fault img) (λ e. absurd (omega arith)) h in
-    record { memory-sized = eqb-true (length m) size (one .0); image-right = sound img (one .1) }
+    record { memory-sized = eqb-true (length m) size (one .0); image-right = faultless img (one .1) }
 
 pub record Writable (s : State) (m img : List ℕ) : Type 0 where
   pub memory-sized : length m ≡ size

@@ -12,6 +12,11 @@ pub const KINDS: u16 = 24;
 
 pub const PLACES: u16 = 3;
 
+// The kind that damages block 0's filler, and the one that damages nothing.
+pub const FILLER: u16 = 19;
+
+pub const NONE: u16 = KINDS - 1;
+
 // How many blocks an image has.
 const BLOCKS: u16 = image_blocks::BLOCKS as u16;
 
@@ -256,7 +261,7 @@ pub fn damage(image: &mut [u8], seed: &mut u32, state: State, case: Case)
         damage_state(image, seed, state, kind, case.edition);
         return;
     }
-    if KINDS - 1 <= kind {
+    if NONE <= kind {
         return;
     }
     let block = block_at(seed, case.place);

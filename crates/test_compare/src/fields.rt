@@ -11,9 +11,13 @@ pub const END: u16 = image_blocks::FIELDS as u16;
 // The read-only addresses and one more that is even.
 const ROMS: u32 = State::NO_ROM + 2;
 
-// A state that stays well formed when it is changed in any fields: in clock mode, with port 1 an output and latch 0 clear.
-pub fn base(seed: &mut u32) -> State {
-    let state = image_seeds::read_only_state(seed, 3);
+// A state that stays well formed when it is changed in any fields: in clock mode, with port 1 an output and latch 0 clear. If asked for,
+// with nothing read-only.
+pub fn base(seed: &mut u32, no_rom: bool) -> State {
+    let mut state = image_seeds::read_only_state(seed, 3);
+    if no_rom {
+        state.rom = State::NO_ROM;
+    }
     let mut psi = state.psi;
     psi.mask = bits::either(psi.mask, 1);
     psi.direction = bits::either(psi.direction, 2);

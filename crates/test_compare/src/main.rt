@@ -9,6 +9,7 @@ use calls::Outcome;
 use calls::Tally;
 use differing_runs::PLACES;
 use image_blocks::IMAGE_SIZE;
+use image_seeds::damage;
 use pairs::Pair;
 
 mod calls;
@@ -166,8 +167,26 @@ fn many(
     }
 }
 
-// Parts of a pair.
+// Parts of a pair whose first image has this kind of damage.
 fn show_parts(
+    bytes: &mut [u8],
+    first: &mut [u8],
+    second: &mut [u8],
+    places: &mut [u32; PLACES],
+    seed: &mut u32,
+    kind: u16,
+)
+    requires { ⌜ Installed (now bytes) ⌝ }
+    requires { ⌜ length (now first) ≡ Image.image-size + 1 ⌝ }
+    requires { ⌜ length (now second) ≡ Image.image-size + 1 ⌝ }
+{
+    let pair = pairs::any_first_damaged(seed, kind);
+    pairs::make(bytes, first, second, seed, pair);
+    every_length(first, second, places);
+}
+
+// Parts of a pair without damage, and of one whose first image is refused for its filler.
+fn show_rounds(
     bytes: &mut [u8],
     first: &mut [u8],
     second: &mut [u8],
@@ -178,9 +197,8 @@ fn show_parts(
     requires { ⌜ length (now first) ≡ Image.image-size + 1 ⌝ }
     requires { ⌜ length (now second) ≡ Image.image-size + 1 ⌝ }
 {
-    let pair = pairs::any_whole_pair(seed);
-    pairs::make(bytes, first, second, seed, pair);
-    every_length(first, second, places);
+    show_parts(bytes, first, second, places, seed, damage::NONE);
+    show_parts(bytes, first, second, places, seed, damage::FILLER);
 }
 
 // All, on images in buffers that have one byte too many.
@@ -191,7 +209,7 @@ fn all(bytes: &mut [u8], first: &mut [u8], second: &mut [u8], places: &mut [u32;
 {
     let mut seed: u32 = 256;
     show_all(bytes, first, second, places, &mut seed);
-    show_parts(bytes, first, second, places, &mut seed);
+    show_rounds(bytes, first, second, places, &mut seed);
     many(bytes, first, second, places, &mut seed);
 }
 

@@ -13,19 +13,23 @@ use image_seeds::damage::Case;
 use machine::State;
 use seeds::below;
 
-// What makes two images differ: the bytes of the memory, the fields (weight 2^k for field k), and editions and damage of each.
+// What makes two images differ: the bytes of the memory, the fields (weight 2^k for field k), and editions and damage of each; and whether
+// nothing is read-only in their base.
 pub struct Pair {
     pub pattern: Pattern,
     pub mask: u16,
     pub first: Case,
     pub second: Case,
+    pub no_rom: bool,
 }
 
-// Pairs that are shown by themselves: those with a chosen pattern, then from here on those that differ in one field, then those with each
-// kind of damage, and all.
+// Pairs that are shown by themselves: those with a chosen pattern, then from here on those that differ in one field, then those that differ in
+// the edition at most, then those with each kind of damage, and all.
 const BY_FIELD: u16 = patterns::CHOSEN;
 
-const BY_DAMAGE: u16 = BY_FIELD + 4 * (fields::END - fields::FIRST);
+const BY_EDITION: u16 = BY_FIELD + 4 * (fields::END - fields::FIRST);
+
+const BY_DAMAGE: u16 = BY_EDITION + 4;
 
 pub const SHOWN: u16 = BY_DAMAGE + 6 * damage::KINDS;
 
@@ -33,7 +37,7 @@ pub const SHOWN: u16 = BY_DAMAGE + 6 * damage::KINDS;
 fn whole(edition: u16) -> Case {
     Case {
         edition,
-        kind: damage::KINDS - 1,
+        kind: damage::NONE,
         place: 0,
     }
 }
@@ -47,16 +51,28 @@ fn whole_pair(pattern: Pattern, mask: u16, first: u16, second: u16) -> Pair {
         mask,
         first: of_first,
         second: of_second,
+        no_rom: false,
     }
 }
 
-// Any two that are not damaged.
-pub fn any_whole_pair(seed: &mut u32) -> Pair {
+// Any two, of which the first has this kind of damage and the second none.
+pub fn any_first_damaged(seed: &mut u32, kind: u16) -> Pair {
     let pattern = patterns::any(seed);
     let mask = seeds::word(seed);
-    let first = image_seeds::any_edition(seed);
-    let second = image_seeds::any_edition(seed);
-    whole_pair(pattern, mask, first, second)
+    let edition = image_seeds::any_edition(seed);
+    let first = Case {
+        edition,
+        kind,
+        place: 0,
+    };
+    let second = whole(image_seeds::any_edition(seed));
+    Pair {
+        pattern,
+        mask,
+        first,
+        second,
+        no_rom: false,
+    }
 }
 
 // Pair `n` of those that differ in one field, each in both editions.
@@ -66,6 +82,13 @@ fn field_pair(n: u16) -> Pair
     let k = fields::FIRST + n / 4;
     let mask = 1u16 << (k as u32);
     whole_pair(patterns::nothing(), mask, 1 + n / 2 % 2, 1 + n % 2)
+}
+
+// Pair `n` of those that differ in the edition at most.
+fn edition_pair(n: u16) -> Pair {
+    let mut pair = whole_pair(patterns::nothing(), 0, 1 + n / 2 % 2, 1 + n % 2);
+    pair.no_rom = true;
+    pair
 }
 
 // Two images, of which the first (0), the second (1) or both (2) are of this edition and damaged.
@@ -96,6 +119,7 @@ fn damaged_pair(seed: &mut u32, kind: u16, which: u16, edition: u16) -> Pair {
         mask,
         first,
         second,
+        no_rom: false,
     }
 }
 
@@ -104,8 +128,11 @@ pub fn shown_pair(seed: &mut u32, n: u16) -> Pair {
     if n < BY_FIELD {
         return whole_pair(patterns::chosen(n), 0, 2, 2);
     }
-    if n < BY_DAMAGE {
+    if n < BY_EDITION {
         return field_pair(n - BY_FIELD);
+    }
+    if n < BY_DAMAGE {
+        return edition_pair(n - BY_EDITION);
     }
     let rest = n - BY_DAMAGE;
     damaged_pair(seed, rest / 6, rest / 2 % 3, 1 + rest % 2)
@@ -145,6 +172,7 @@ pub fn any_pair(seed: &mut u32) -> Pair {
         mask,
         first,
         second,
+        no_rom: false,
     }
 }
 
@@ -213,6 +241,6 @@ pub fn make(bytes: &mut [u8], first: &mut [u8], second: &mut [u8], seed: &mut u3
     requires { ⌜ length (now second) ≡ Image.image-size + 1 ⌝ }
 {
     seeds::fill(bytes, seed);
-    let base = fields::base(seed);
+    let base = fields::base(seed, pair.no_rom);
     make_of(bytes, first, second, seed, base, pair);
 }

@@ -97,7 +97,7 @@ list m a text =
 pub record Compared : Type 0 where
   pub number : ℕ
   pub answer : List ℕ
-  pub runs : List ℕ
+  pub list : List ℕ
 
 -- two images compared: the image and the block that a refusal names, which fields differ, the number of runs; start and length of the first
 -- 256 runs
@@ -108,5 +108,5 @@ compare a b =
       answer =
           Compare.compare a b .answer .image ∷ Compare.compare a b .answer .block
           ∷ Compare.compare a b .answer .fields ∷ Compare.compare a b .answer .runs ∷ [];
-      runs = Compare.compare a b .runs;
+      list = Compare.compare a b .list;
     }

@@ -117,7 +117,7 @@ pub extern "C" fn tms_compare_images(
 ) -> u16
     ensures { λ r. ⌜ r ≡ Exported.compare (now (first .entry)) (now (second .entry)) .number ⌝ }
     ensures { λ _. ⌜ now (answer .exit) ≡ Exported.compare (now (first .entry)) (now (second .entry)) .answer ⌝ }
-    ensures { λ _. ⌜ now (runs .exit) ≡ Exported.compare (now (first .entry)) (now (second .entry)) .runs ⌝ }
+    ensures { λ _. ⌜ now (runs .exit) ≡ Exported.compare (now (first .entry)) (now (second .entry)) .list ⌝ }
 {
     let compared = super::compare_images(first, second, runs);
     *answer = [

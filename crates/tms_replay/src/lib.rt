@@ -1,4 +1,5 @@
-// The public calls: power up, run, read an image, write an image, list an instruction, compare two images. Module `exported` has them for C, Fortran and Rust.
+// The public calls: power up, run, read an image, write an image, list an instruction, compare two images. Module `exported` has them for C,
+// Fortran and Rust.
 ghost use mathlib.Core.Path.{_≡_};
 ghost use Rattle.machine.specs.Run as Run;
 ghost use Rattle.image.specs.Calls as Calls;
@@ -57,7 +58,7 @@ pub fn list(bytes: &[u8], address: u16, text: &mut [u8]) -> ListAnswer
 // Compares two images: which fields of block 0 differ, and which runs of bytes, the first 256 of them into the lent places.
 pub fn compare_images(first: &[u8], second: &[u8], runs: &mut [u32; PLACES]) -> CompareAnswer
     ensures { λ r. ⌜ r ≡ Compare.compare (now (first .entry)) (now (second .entry)) .answer ⌝ }
-    ensures { λ _. ⌜ now (runs .exit) ≡ Compare.compare (now (first .entry)) (now (second .entry)) .runs ⌝ }
+    ensures { λ _. ⌜ now (runs .exit) ≡ Compare.compare (now (first .entry)) (now (second .entry)) .list ⌝ }
 {
     comparison::compare_images(first, second, runs)
 }

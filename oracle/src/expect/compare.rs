@@ -1,10 +1,11 @@
-//! Images of two states and memories that differ as a case says, made ones of the
-//! first edition or not, damaged, and compared: the first with the second, the
-//! second with the first, and the first with itself.
+//! Pairs of images of either edition, damaged or not, compared in both orders. Their
+//! states and memories differ as a case says; the first is compared with itself too.
 
 use std::fmt::Write;
 
-use super::damage::{damage, make_first_edition, FIRST_EDITION, KINDS, NO_DAMAGE, PLACES, SECOND_EDITION};
+use super::damage::{
+    damage, make_first_edition, FILLER, FIRST_EDITION, KINDS, NO_DAMAGE, PLACES, SECOND_EDITION,
+};
 use super::images::any_read_only;
 use super::{fill, state, Sum};
 use crate::seeds::Seeds;
@@ -19,6 +20,14 @@ const LINES: u32 = 128;
 const CASES: u32 = 20;
 /// The kinds of damage that these cases draw from; most are none.
 const DRAWN_KINDS: u16 = 96;
+
+/// All pairs of editions.
+const EDITIONS: [(u16, u16); 4] = [
+    (FIRST_EDITION, FIRST_EDITION),
+    (FIRST_EDITION, SECOND_EDITION),
+    (SECOND_EDITION, FIRST_EDITION),
+    (SECOND_EDITION, SECOND_EDITION),
+];
 
 /// Start, length, period and count of the first part's patterns.
 const PATTERNS: [(u16, u16, u16, u16); 28] = [
@@ -190,34 +199,46 @@ impl Make {
 struct Case {
     pattern: Pattern,
     mask: u16,
+    /// The read-only address before the change is that of the first edition.
+    nothing_read_only: bool,
     first: Make,
     second: Make,
 }
 
 impl Case {
-    /// Only the memory differs.
-    fn of_pattern(start: u16, length: u16, period: u16, count: u16) -> Case {
+    fn new(pattern: Pattern, mask: u16, first: Make, second: Make) -> Case {
         Case {
-            pattern: Pattern {
-                start,
-                length,
-                period,
-                count,
-                sparse: 0,
-            },
-            mask: 0,
-            first: Make::sound(SECOND_EDITION),
-            second: Make::sound(SECOND_EDITION),
+            pattern,
+            mask,
+            nothing_read_only: false,
+            first,
+            second,
         }
     }
 
-    /// A field is changed, and the editions may differ.
-    fn of_field(k: u16, first: u16, second: u16) -> Case {
+    /// Only the memory differs.
+    fn of_pattern(start: u16, length: u16, period: u16, count: u16) -> Case {
+        let pattern = Pattern {
+            start,
+            length,
+            period,
+            count,
+            sparse: 0,
+        };
+        let make = Make::sound(SECOND_EDITION);
+        Case::new(pattern, 0, make, make)
+    }
+
+    /// The fields of a mask are changed, and the editions may differ.
+    fn of_fields(mask: u16, (first, second): (u16, u16)) -> Case {
+        Case::new(Pattern::NONE, mask, Make::sound(first), Make::sound(second))
+    }
+
+    /// Nothing but the editions may differ.
+    fn of_editions(editions: (u16, u16)) -> Case {
         Case {
-            pattern: Pattern::NONE,
-            mask: 1 << k,
-            first: Make::sound(first),
-            second: Make::sound(second),
+            nothing_read_only: true,
+            ..Case::of_fields(0, editions)
         }
     }
 
@@ -231,21 +252,18 @@ impl Case {
             kind: if damaged { kind } else { NO_DAMAGE },
             place: seeds.below(PLACES),
         };
-        Case {
-            pattern,
-            mask,
-            first: make(on_first),
-            second: make(on_second),
-        }
+        Case::new(pattern, mask, make(on_first), make(on_second))
     }
 
-    fn any_sound(seeds: &mut Seeds) -> Case {
-        Case {
-            pattern: Pattern::any(seeds),
-            mask: seeds.word(),
-            first: Make::sound(any_edition(seeds)),
-            second: Make::sound(any_edition(seeds)),
-        }
+    /// The first image has damage of this kind, the second none.
+    fn of_first_damage(seeds: &mut Seeds, kind: u16) -> Case {
+        let pattern = Pattern::any(seeds);
+        let mask = seeds.word();
+        let first = Make {
+            kind,
+            ..Make::sound(any_edition(seeds))
+        };
+        Case::new(pattern, mask, first, Make::sound(any_edition(seeds)))
     }
 
     /// Either image may be damaged; half of the cases change no field.
@@ -261,12 +279,7 @@ impl Case {
             kind: kinds[n],
             place: places[n],
         };
-        Case {
-            pattern,
-            mask,
-            first: make(0),
-            second: make(1),
-        }
+        Case::new(pattern, mask, make(0), make(1))
     }
 }
 
@@ -331,7 +344,10 @@ impl Lent {
         let first = &mut self.first[..IMAGE_SIZE];
         let second = &mut self.second[..IMAGE_SIZE];
         fill(&mut self.memory, seeds);
-        let first_state = base(seeds);
+        let mut first_state = base(seeds);
+        if case.nothing_read_only {
+            first_state.read_only = State::NO_READ_ONLY;
+        }
         write_image(first_state, &self.memory, first);
         case.pattern.apply(seeds, &mut self.memory);
         let second_state = changed(first_state, case.mask);
@@ -383,10 +399,11 @@ impl Lent {
         self.compare()
     }
 
-    /// A case with the images cut short, whole, and too long.
-    fn lengths(&mut self, seeds: &mut Seeds) -> String {
+    /// A case with the images cut short, whole, and too long; the first has damage
+    /// of this kind.
+    fn lengths(&mut self, seeds: &mut Seeds, kind: u16) -> String {
         const LENGTHS: [usize; 5] = [0, 1, IMAGE_SIZE - 1, IMAGE_SIZE, IMAGE_SIZE + 1];
-        let case = Case::any_sound(seeds);
+        let case = Case::of_first_damage(seeds, kind);
         self.make(seeds, case);
         let mut text = String::new();
         for n in LENGTHS {
@@ -426,12 +443,14 @@ pub fn expect() -> String {
         text += &lent.one(&mut seeds, case).line();
     }
     for k in 2..=14 {
-        for first in FIRST_EDITION..=SECOND_EDITION {
-            for second in FIRST_EDITION..=SECOND_EDITION {
-                let case = Case::of_field(k, first, second);
-                text += &lent.one(&mut seeds, case).line();
-            }
+        for editions in EDITIONS {
+            let case = Case::of_fields(1 << k, editions);
+            text += &lent.one(&mut seeds, case).line();
         }
+    }
+    for editions in EDITIONS {
+        let case = Case::of_editions(editions);
+        text += &lent.one(&mut seeds, case).line();
     }
     for kind in 0..KINDS {
         for (on_first, on_second) in [(true, false), (false, true), (true, true)] {
@@ -441,7 +460,9 @@ pub fn expect() -> String {
             }
         }
     }
-    text += &lent.lengths(&mut seeds);
+    for kind in [NO_DAMAGE, FILLER] {
+        text += &lent.lengths(&mut seeds, kind);
+    }
     for _ in 0..LINES {
         text += &lent.line(&mut seeds);
     }

@@ -7,6 +7,8 @@ use crate::{State, BLOCKS, BLOCK_SIZE};
 
 /// How many kinds of damage there are.
 pub const KINDS: u16 = 24;
+/// This kind changes filler of block 0.
+pub const FILLER: u16 = 19;
 /// The last kind is none, and so are any further.
 pub const NO_DAMAGE: u16 = KINDS - 1;
 /// Classes of places: the first block, one in the middle, the last.
@@ -130,8 +132,7 @@ pub fn damage(image: &mut [u8], seeds: &mut Seeds, state: State, edition: u16, k
             let word = 2 * seeds.below(8193);
             put_and_mend(image, READ_ONLY, word);
         }
-        // filler
-        19 => {
+        FILLER => {
             let n = if edition == SECOND_EDITION {
                 among(seeds, 16, 239)
             } else {

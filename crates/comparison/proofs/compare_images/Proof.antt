@@ -9,13 +9,13 @@ use lib.ListN.{length}
 use Rattle.image_blocks.specs.Image.{image-size}
 use Rattle.image.specs.declared.Fault.{Fault}
 use Rattle.image.specs.Calls.{image-fault}
-use Rattle.image.proofs.Accepted.{sound}
+use Rattle.image.proofs.Accepted.{faultless}
 use Rattle.comparison.specs.Compare.{compare}
 use Rattle.comparison.proofs.compare_images.Statement.{statement}
 use Rattle.comparison.proofs.compare_images.Tie as tie
 
 sized : (img : List ℕ) (f : Fault) → f ≡ image-fault img → f .number ≡ 0 → length img ≡ image-size
-sized img f e z = sound img (ap (λ (x : Fault). x .number) (sym e) ∙ z) .image-sized
+sized img f e z = faultless img (ap (λ (x : Fault). x .number) (sym e) ∙ z) .image-sized
 
 returns : tie.Need-returns
 unfolding compare numbers places

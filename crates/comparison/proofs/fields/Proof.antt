@@ -1,6 +1,6 @@
 -- `fields` meets its contract: the weights are those of the fields from `k` on.
 use Prim.Native.Nat.{ℕ, suc, _+_, _-_, _*_, _<_, _≤_}
-use mathlib.Core.Path.{_≡_, refl, sym, ap, _∙_}
+use mathlib.Core.Path.{_≡_, refl}
 use mathlib.Core.Bool.{not}
 use native.Mathlib.Omega.{arith}
 use mir.Val.{boolByte}
@@ -18,7 +18,7 @@ Inv-loop first second weights₀ k₀ weights k = (k ≤ 15) × (weights < 32768
 abbrev μ-loop : tie.MeasureT-loop
 μ-loop first second weights₀ k₀ weights k = k
 
--- one byte's worth of a test
+-- the sum does not wrap: a test adds 1 at most
 add-weights : tie.Need-add-weights Inv-loop μ-loop
 add-weights c =
     let differ = not (eqb (c .before .field .result) (c .field2 .result)) in

@@ -1,6 +1,6 @@
 -- `fill_memory` meets its contract: the lent bytes are the image's memory as far as the blocks before `i` + 1 carry it.
 use Prim.Native.Nat.{ℕ, min, _+_, _-_, _*_, _≤_}
-use mathlib.Core.Path.{_≡_, refl, sym, ap, _∙_}
+use mathlib.Core.Path.{_≡_, refl, ap, _∙_}
 use mathlib.Core.List.{List, _++_, append-nil}
 use native.Mathlib.Omega.{arith}
 use borrow.Author.Needs.{needs}

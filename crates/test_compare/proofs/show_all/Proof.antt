@@ -1,4 +1,4 @@
--- A turn for each of the 224 pairs, which leaves the lengths of memory and images.
+-- A turn for each of the 228 pairs, which leaves the lengths of memory and images.
 use lib.ListN.{length}
 use Prim.Native.Nat.{_≤_, _-_}
 use mathlib.Core.Path.{_≡_}
@@ -7,10 +7,10 @@ use Rattle.test_compare.proofs.show_all.Statement.{statement}
 use Rattle.test_compare.proofs.show_all.Tie as tie
 
 abbrev Inv-loop : tie.InvT-loop
-Inv-loop bytes₀ first₀ second₀ places₀ seed₀ n₀ bytes first second places seed n = (((length bytes ≡ length bytes₀) × (length first ≡ length first₀)) × (length second ≡ length second₀)) × (n ≤ 224)
+Inv-loop bytes₀ first₀ second₀ places₀ seed₀ n₀ bytes first second places seed n = (((length bytes ≡ length bytes₀) × (length first ≡ length first₀)) × (length second ≡ length second₀)) × (n ≤ 228)
 
 abbrev μ-loop : tie.MeasureT-loop
-μ-loop bytes₀ first₀ second₀ places₀ seed₀ n₀ bytes first second places seed n = 224 - n
+μ-loop bytes₀ first₀ second₀ places₀ seed₀ n₀ bytes first second places seed n = 228 - n
 
 pub show-all-spec : {M : Type 1} → statement M
 show-all-spec =

@@ -111,22 +111,36 @@ fn any_pattern_has_fewer_and_more_runs_than_are_listed() {
     );
 }
 
+/// How many lines each part of the output has.
+const PARTS: [usize; 7] = [28, 13 * 4, 4, 24 * 3 * 2, 25, 25, 128];
+
+/// The words of the lines of each part.
+fn parts(text: &str) -> [Vec<Vec<&str>>; PARTS.len()] {
+    let mut lines = text.lines().map(|line| line.split(' ').collect());
+    let parts = PARTS.map(|count| lines.by_ref().take(count).collect());
+    assert_eq!(lines.next(), None);
+    parts
+}
+
 #[test]
 fn the_output_has_its_lines() {
     let text = expect();
-    let lines: Vec<Vec<&str>> = text.lines().map(|line| line.split(' ').collect()).collect();
-    let (patterns, fields, damaged, lengths) = (28, 13 * 4, 24 * 3 * 2, 25);
-    assert_eq!(lines.len(), patterns + fields + damaged + lengths + 128);
-    let (single, rest) = lines.split_at(patterns + fields + damaged);
-    assert!(single.iter().all(|line| line.len() == 11));
-    assert!(rest[..lengths].iter().all(|line| line.len() == 6));
-    assert!(rest[lengths..].iter().all(|line| line.len() == 2));
+    assert_eq!(text.lines().count(), 406);
+    let words_in_each = [11, 11, 11, 11, 6, 6, 2];
+    for ((lines, count), words) in parts(&text).into_iter().zip(PARTS).zip(words_in_each) {
+        assert_eq!(lines.len(), count);
+        assert!(lines.iter().all(|line| line.len() == words));
+    }
+}
 
-    // All of the first two parts are accepted.
-    for line in &single[..patterns + fields] {
+#[test]
+fn sound_images_are_accepted_and_show_their_fields() {
+    let text = expect();
+    let [patterns, fields, editions, ..] = parts(&text);
+    for line in patterns.iter().chain(&fields).chain(&editions) {
         assert_eq!(line[..3], ["0", "0", "0"]);
     }
-    for (n, line) in single[patterns..][..fields].iter().enumerate() {
+    for (n, line) in fields.iter().enumerate() {
         let (k, first, second) = (2 + n / 4, n / 2 % 2, n % 2);
         let weights: u32 = line[3].parse().unwrap();
         // the field, where both editions have it, and the edition where they differ
@@ -138,29 +152,51 @@ fn the_output_has_its_lines() {
         }
         assert_eq!(line[4..9], ["0"; 5]);
     }
-    // Every refusal of damage is met in either image.
+    // The edition alone, as the read-only address is the first edition's.
+    for (line, weights) in editions.iter().zip(["0", "2", "2", "0"]) {
+        assert_eq!(line[3], weights);
+        assert_eq!(line[4..9], ["0"; 5]);
+    }
+}
+
+#[test]
+fn every_refusal_of_damage_is_met_in_either_image() {
+    let text = expect();
+    let [_, _, _, damaged, ..] = parts(&text);
     for number in ["6", "7", "8", "9"] {
         for image in ["1", "2"] {
-            let met = single.iter().filter(|line| line[..2] == [number, image]);
+            let met = damaged.iter().filter(|line| line[..2] == [number, image]);
             assert!(met.count() > 1, "{number} {image}");
         }
     }
-    // Lengths: only the whole images are accepted.
-    for (n, line) in rest[..lengths].iter().enumerate() {
-        let expected = match (n / 5, n % 5) {
-            (3, 3) => ["0", "0", "0"],
-            (3, _) => ["5", "2", "0"],
-            _ => ["5", "1", "0"],
-        };
-        assert_eq!(line[..3], expected);
-        if expected[0] != "0" {
-            assert_eq!(line[3..], ["0", "0", "00000000"]);
+}
+
+#[test]
+fn lengths_are_judged_after_all_of_the_first_image() {
+    let text = expect();
+    let [.., sound, damaged, _] = parts(&text);
+    let check = |lines: Vec<Vec<&str>>, first_is_sound: bool| {
+        for (n, line) in lines.iter().enumerate() {
+            let expected = match (n / 5, n % 5) {
+                (3, _) if !first_is_sound => ["9", "1", "0"],
+                (3, 3) => ["0", "0", "0"],
+                (3, _) => ["5", "2", "0"],
+                _ => ["5", "1", "0"],
+            };
+            assert_eq!(line[..3], expected);
+            if expected[0] != "0" {
+                assert_eq!(line[3..], ["0", "0", "00000000"]);
+            }
         }
-    }
-    // A fair share of the mixed cases is accepted.
-    let accepted: u32 = rest[lengths..]
-        .iter()
-        .map(|line| line[0].parse::<u32>().unwrap())
-        .sum();
+    };
+    check(sound, true);
+    check(damaged, false);
+}
+
+#[test]
+fn a_fair_share_of_the_mixed_cases_is_accepted() {
+    let text = expect();
+    let [.., mixed] = parts(&text);
+    let accepted: u32 = mixed.iter().map(|line| line[0].parse::<u32>().unwrap()).sum();
     assert!((1000..2000).contains(&accepted), "{accepted}");
 }
