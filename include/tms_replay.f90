@@ -12,7 +12,7 @@ module tms_replay
   ! numbers about a line, those about two images, the runs of differing bytes that are listed and the places that these take.
   integer(c_size_t), parameter :: tms_memory_size = 16384, tms_image_size = 17408, tms_line_size = 48
   integer, parameter :: tms_state_words = 13, tms_counts = 4, tms_line_answer = 2, tms_compare_answer = 4, &
-      tms_listed_runs = 256, tms_run_places = 512
+      tms_listed_runs = 256, tms_listed_places = 512
 
   ! The numbers of a state, from 0 to 65535 each but for the last; flags are at most 2 (1: idle, 2: the next boundary takes
   ! no sample). The last is where the read-only part begins, an even number of at most tms_no_rom, which means none.
@@ -32,8 +32,9 @@ module tms_replay
   integer, parameter :: tms_length = 1, tms_words = 2
 
   ! The numbers about two images: the image and the block that a refusal names, the fields that differ (bit k for field k),
-  ! how many runs of differing bytes there are.
-  integer, parameter :: tms_of_image = 1, tms_block = 2, tms_differing_fields = 3, tms_runs = 4
+  ! how many runs of differing bytes there are. Of those listed, run n, counted from 1, has the address of its first byte in
+  ! place 2n - 1 and its length in place 2n.
+  integer, parameter :: tms_refused_image = 1, tms_refused_block = 2, tms_differing_fields = 3, tms_runs = 4
 
   ! The fields of block 0, numbered from 0 by their words, as bits are; number n of a state, counted from 1, is field n + 1.
   integer, parameter :: tms_field_format = 0, tms_field_edition = 1, tms_field_state = 2
@@ -104,7 +105,7 @@ module tms_replay
       integer(c_int8_t), intent(in) :: second(*)
       integer(c_size_t), value :: second_len
       integer(c_int32_t), intent(out) :: answer(tms_compare_answer)
-      integer(c_int32_t), intent(out) :: runs(tms_run_places)
+      integer(c_int32_t), intent(out) :: runs(tms_listed_places)
       integer(c_int16_t) :: tms_compare_images
     end function
   end interface

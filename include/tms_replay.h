@@ -10,8 +10,8 @@
 
    What a caller owes: no pointer is null, not even that of an empty slice; each is aligned for its
    type; what is changed overlaps nothing else of the same call; `state` has 13 elements, `counts`
-   has 4, `answer` 2 about a line and 4 about two images, and `runs` 512. The two images of a
-   comparison may be the same bytes. Nothing is kept after a call, and nothing is allocated.
+   has 4, `answer` has 2 for `tms_list` and 4 for `tms_compare_images`, `runs` has 512. The two images
+   of a comparison may be the same bytes. Nothing is kept after a call, and nothing is allocated.
 
    The contracts of the functions, proved for all arguments, stand in
    crates/tms_replay/src/exported.rt, the definitions that they cite in
@@ -39,7 +39,7 @@ extern "C" {
 #define TMS_LINE_ANSWER 2
 #define TMS_COMPARE_ANSWER 4
 #define TMS_LISTED_RUNS 256
-#define TMS_RUN_PLACES 512
+#define TMS_LISTED_PLACES 512
 
 /* The numbers of a state, in elements of 32 bits: all have 16 bits but the last, which has 32. */
 enum {
@@ -92,8 +92,8 @@ enum {
 
 /* The numbers about two images. */
 enum {
-  TMS_OF_IMAGE,         /* the image that a refusal names, 1 or 2; else 0 */
-  TMS_BLOCK,            /* the block that a refusal names; else 0 */
+  TMS_REFUSED_IMAGE,    /* the image that a refusal names, 1 or 2; else 0 */
+  TMS_REFUSED_BLOCK,    /* its block that refusals 6 and 7 name; else 0 */
   TMS_DIFFERING_FIELDS, /* the fields of block 0 that differ, weight 2^k for field k, below */
   TMS_RUNS              /* how many runs of differing bytes the memories have, 0 to 8192 */
 };
@@ -154,14 +154,15 @@ uint16_t tms_list(const uint8_t *memory, size_t memory_len, uint16_t address, ui
                   size_t text_len, uint32_t answer[TMS_LINE_ANSWER]);
 
 /* Compares two images, of one edition or of two. Leaves in `answer` which fields of block 0 differ
-   and how many runs of differing bytes the memories have, and in `runs` start and length of the
-   first 256 runs, in rising order, with zeros in the places that are left. A run is as long as it
-   can be: no two touch. A refusal leaves the image, and for 6 and 7 the block, in `answer`, and
-   zeros in all other places, those of `runs` too. Answers 5, then 6 and 7 block by block, 8, 9 for
-   the first image, the same for the second, 0. */
+   and how many runs of differing bytes the memories have, and in `runs` the first 256 of these, in
+   rising order: run n, counted from 0, has the address of its first byte in `runs[2 * n]` and its
+   length in `runs[2 * n + 1]`; the places that are left are 0. A run is as long as it can be: no two
+   touch. A refusal leaves the image, and for 6 and 7 the block, in `answer`, and zeros in all other
+   places, those of `runs` too. Answers 5, then 6 and 7 block by block, 8, 9 for the first image, the
+   same for the second, 0. */
 uint16_t tms_compare_images(const uint8_t *first, size_t first_len, const uint8_t *second,
                             size_t second_len, uint32_t answer[TMS_COMPARE_ANSWER],
-                            uint32_t runs[TMS_RUN_PLACES]);
+                            uint32_t runs[TMS_LISTED_PLACES]);
 
 #ifdef __cplusplus
 }

@@ -220,7 +220,7 @@ fn main() -> ExitCode {
         ("compared, 8192 runs", pair(image, |address| address % 2 == 0)),
         ("compared, runs by chance", pair(image, |_| random.below(2) == 0)),
     ] {
-        within &= report(name, IMAGES, "pair", &best(|| compared(&of)));
+        within &= report(name, IMAGES, "comparison", &best(|| compared(&of)));
     }
     report_day(&sample, &times);
     if within {

@@ -18,7 +18,7 @@ static uint32_t block;
 static uint8_t text[TMS_LINE_SIZE];
 static uint32_t listed[TMS_LINE_ANSWER];
 static uint32_t compared[TMS_COMPARE_ANSWER];
-static uint32_t runs[TMS_RUN_PLACES];
+static uint32_t runs[TMS_LISTED_PLACES];
 
 static void put(uint16_t at, uint16_t word) {
   memory[at] = word >> 8;
@@ -53,8 +53,8 @@ static uint16_t run(size_t steps) {
 /* The image and the later one: fields by their numbers, runs by their addresses. */
 static void compare(size_t later_len) {
   uint16_t answer = tms_compare_images(image, sizeof image, later, later_len, compared, runs);
-  printf("compare %u image %" PRIu32 " block %" PRIu32 " fields", answer, compared[TMS_OF_IMAGE],
-         compared[TMS_BLOCK]);
+  printf("compare %u image %" PRIu32 " block %" PRIu32 " fields", answer, compared[TMS_REFUSED_IMAGE],
+         compared[TMS_REFUSED_BLOCK]);
   for (int k = 0; k < TMS_FIELD_STATE + TMS_STATE_WORDS; k++)
     if (compared[TMS_DIFFERING_FIELDS] >> k & 1)
       printf(" %d", k);

@@ -15,7 +15,7 @@ program powered
   integer(c_int32_t) :: block_number
   integer(c_int8_t) :: text(tms_line_size) = 0
   integer(c_int32_t) :: listed(tms_line_answer)
-  integer(c_int32_t) :: compared(tms_compare_answer), runs(tms_run_places)
+  integer(c_int32_t) :: compared(tms_compare_answer), runs(tms_listed_places)
   integer(c_int16_t) :: answer, address
 
   ! The reset vector, then: LI R1,7FFFh; LI R2,1; A R1,R2; an unassigned word.
@@ -128,8 +128,8 @@ contains
     integer :: k
 
     answer = tms_compare_images(image, tms_image_size, later, length, compared, runs)
-    print '(a, i0, a, i0, a, i0, a, *(1x, i0))', 'compare ', answer, ' image ', compared(tms_of_image), ' block ', &
-        compared(tms_block), ' fields', pack([(k, k = 0, tms_field_state + tms_state_words - 1)], &
+    print '(a, i0, a, i0, a, i0, a, *(1x, i0))', 'compare ', answer, ' image ', compared(tms_refused_image), ' block ', &
+        compared(tms_refused_block), ' fields', pack([(k, k = 0, tms_field_state + tms_state_words - 1)], &
         [(btest(compared(tms_differing_fields), k), k = 0, tms_field_state + tms_state_words - 1)])
     print '(a, i0, a, i0, a, i0)', 'runs ', compared(tms_runs), ' first ', runs(1), ' length ', runs(2)
   end subroutine
