@@ -13,7 +13,7 @@ WORD = re.compile(r"[^\s(){}.;,@\"«»:`|]+")
 MARKS = r"(?:(?:abbrev|unfoldable|pub|pattern)\s+)*"
 KINDS = r"(?:(?:data|record|ruleset)\s+)?"
 TOP = re.compile(r"^" + MARKS + KINDS + MARKS + r"([^\s(){}.;,@\"«»:]+)(?=[\s({:])")
-INNER = re.compile(r"^\s+(?:pub\s+)?([^\s(){}.;,@\"«»:]+)\s+:\s")
+INNER = re.compile(r"^\s+(?:pub\s+)?([^\s(){}.;,@\"«»:]+)\s+:(?:\s|$)")
 USE = re.compile(r"^(?:pub )?use ([^\s{;]+?)(?:\.\{([^}]*)\})?(?: as [^\s;]+)?;?$", re.M)
 SPAN = re.compile(r"(\x60+)(?:[^\n]|\n(?!\s*\n))*?\1")
 OWN = re.compile(r"^Rattle\.(?:std|core|std_\w+)\.")

@@ -5,14 +5,14 @@ pub mod status;
 pub mod sums;
 
 // A result and the status after it.
-#[derive(Drop)]
+#[derive(Clone, Copy)]
 pub struct Outcome {
     pub value: u16,
     pub st: u16,
 }
 
 // A double word.
-#[derive(Drop)]
+#[derive(Clone, Copy)]
 pub struct Pair {
     pub high: u16,
     pub low: u16,

@@ -1,4 +1,6 @@
 // Single bits of words, counted from the lowest, and words joined bit by bit.
+#![tactic(auto)]
+
 ghost use Rattle.std.specs.Prelude.{◌≡◌, ◌<◌};
 ghost use Rattle.bits.specs.Bits as Bits;
 ghost use Rattle.bits.specs.Logic as Logic;

@@ -84,11 +84,11 @@ Brought cleared m n = Unit
 Brought other m n = Unit
 
 module _ (word : ℕ) (m : Machine) (h : Sound m) where
-  new-note :
+  new_note :
       (i : ℕ) → Standing (step word m).machine (noted m (step word m).machine i)
       → Each (λ p. p < m.state.rom) (save_places (note word m i)) → Good (step word m).machine.memory (note word m i)
   unfolding note
-  new-note i s below =
+  new_note i s below =
       record {
         stands = s (rw (step_keeps_read_only word m) below);
         proper = record {
@@ -100,22 +100,22 @@ module _ (word : ℕ) (m : Machine) (h : Sound m) where
         };
       }
 
-  brought-by :
+  brought_by :
       (k : Kind) → Meaning k m (step word m).machine (fetches (step_accesses word m))
       → Saved (event_of word m k) m.state.rom → Brought (event_of word m k) m (step word m).machine
   unfolding Brought Meaning Meant Saved event_of
-  brought-by was-reset d below = tt
-  brought-by was-load d below = new-note 0 d below
-  brought-by was-idle d below = tt
-  brought-by (was_level k) d below = new-note 0 d below
-  brought-by (ran Ordinary) d below = tt
-  brought-by (ran Unassigned) d below = tt
-  brought-by (ran Switched) d below = new-note (fetches (step_accesses word m)) d below
-  brought-by (ran Returned) d below = d
+  brought_by was-reset d below = tt
+  brought_by was-load d below = new_note 0 d below
+  brought_by was-idle d below = tt
+  brought_by (was_level k) d below = new_note 0 d below
+  brought_by (ran Ordinary) d below = tt
+  brought_by (ran Unassigned) d below = tt
+  brought_by (ran Switched) d below = new_note (fetches (step_accesses word m)) d below
+  brought_by (ran Returned) d below = d
 
   brought : Saved (event word m) m.state.rom → Brought (event word m) m (step word m).machine
   unfolding event
-  brought = brought-by (step word m).value (step_means word m h.fit)
+  brought = brought_by (step word m).value (step_means word m h.fit)
 
 -- the notes after a step and what RTWP gave back, from the frame and from what the step has done
 module _ (m n : Machine) (ws : List ℕ) (frame : (x : Note) → disjoint (save_places x) ws ≡ true → Stands m.memory x → Stands n.memory x) where

@@ -10,7 +10,7 @@ use machine::{Signal, State, StepAnswer, bus};
 use operand::results;
 
 // What a step answers, and the state after it.
-#[derive(Drop)]
+#[derive(Clone, Copy)]
 pub struct Stepped {
     pub answer: StepAnswer,
     pub state: State,

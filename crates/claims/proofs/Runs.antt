@@ -205,16 +205,16 @@ module _ (stop : ℕ) where
   NeverBefore : ℕ → List ℕ → Machine → Ran → Type 0
   NeverBefore n rs m x = (k : ℕ) → k < x.steps → (runs stop k rs m).machine.state.pc ≡ stop → ⊥
 
-  never-more :
+  never_more :
       (n r : ℕ) (rs : List ℕ) (m : Machine) (x : Ran) → eqb m.state.pc stop ≡ false
       → NeverBefore n rs (step r m).machine x → NeverBefore (suc n) (r ∷ rs) m (one_more (answer r m) x)
   unfolding NeverBefore runs
-  never-more n r rs m x e p zero l q = eqb-false _ _ e q
-  never-more n r rs m x e p (suc k) l q = p k (omega arith) (rw (goes_on stop k r rs m e) at q)
+  never_more n r rs m x e p zero l q = eqb-false _ _ e q
+  never_more n r rs m x e p (suc k) l q = p k (omega arith) (rw (goes_on stop k r rs m e) at q)
 
   runs_never : (n : ℕ) (rs : List ℕ) (m : Machine) → NeverBefore n rs m (runs stop n rs m)
   unfolding NeverBefore
-  runs_never = every_run stop NeverBefore (λ n rs m o k l. absurd (omega arith)) never-more
+  runs_never = every_run stop NeverBefore (λ n rs m o k l. absurd (omega arith)) never_more
 
 pub stops_exactly : StopsExactly
 unfolding Ended NeverBefore result

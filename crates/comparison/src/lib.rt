@@ -9,7 +9,7 @@ use image::Fault;
 
 // Comparing's answer: the number of document 01's table, the image and the block that a refusal names, which fields of block 0 differ
 // (weight 2^k for field k), and how many runs of bytes.
-#[derive(Drop)]
+#[derive(Clone, Copy)]
 pub struct CompareAnswer {
     pub number: u16,
     pub image: u16,

@@ -13,7 +13,7 @@ use memory::Width;
 pub const ALLOWANCE: u16 = 8;
 
 // The word that is performed in the end, and the state then.
-#[derive(Drop)]
+#[derive(Clone, Copy)]
 struct Resolved {
     word: u16,
     state: State,

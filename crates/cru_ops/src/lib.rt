@@ -13,7 +13,7 @@ use operand::results;
 use psi::{CruBase, CruBit};
 
 // A CRU bit, and the state after it was found.
-#[derive(Drop)]
+#[derive(Clone, Copy)]
 pub struct Based {
     pub bit: CruBit,
     pub state: State,

@@ -9,7 +9,7 @@ pub const LISTED: usize = 256;
 pub const PLACES: usize = 2 * LISTED;
 
 // What is found in the bytes so far: how many runs have ended, and how long the one is that has not, 0 if there is none.
-#[derive(Drop)]
+#[derive(Clone, Copy)]
 pub struct Found {
     pub ended: usize,
     pub length: usize,

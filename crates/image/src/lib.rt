@@ -7,7 +7,7 @@ ghost use Rattle.image.specs.Calls as Calls;
 use machine::State;
 
 // Reading's answer: the number of document 01's table, the block that a refusal names, and the state.
-#[derive(Drop)]
+#[derive(Clone, Copy)]
 pub struct ReadAnswer {
     pub number: u16,
     pub block: u16,
@@ -15,14 +15,14 @@ pub struct ReadAnswer {
 }
 
 // Writing's answer: the number and the state as given.
-#[derive(Drop)]
+#[derive(Clone, Copy)]
 pub struct WriteAnswer {
     pub number: u16,
     pub state: State,
 }
 
 // A refusal's number, and the block that it names.
-#[derive(Drop)]
+#[derive(Clone, Copy)]
 pub struct Fault {
     pub number: u16,
     pub block: u16,

@@ -21,7 +21,7 @@ use Rattle.image_claims.proofs.Written.{read_written}
 use Rattle.image.proofs.Accepted.{Accepted, accepted}
 use Rattle.image.proofs.Answers.{reads, reads_not, read_number}
 use Rattle.image_claims.proofs.Accepted.{right, each_right, Sound, sound}
-use Rattle.image_claims.proofs.Read.{second_back, first_back, image-back}
+use Rattle.image_claims.proofs.Read.{second_back, first_back, image_back}
 use Rattle.image_claims.proofs.Lowest.{Low, low, judged, wrong_check, right_check, wrong_number}
 
 -- a well-formed state, a memory and a buffer of the right sizes are written
@@ -59,7 +59,7 @@ module _ (img m : List ℕ) (bytes : Bytes img) (zero-read : (read img m).answer
       rw (
         reads img m none,
         writes (Image.state_of img) (Image.memory_of img) buffer in_order.formed (memory_length img known.image_right.image_sized) b,
-        image-back img known.image_right.image_sized bytes in_order each,
+        image_back img known.image_right.image_sized bytes in_order each,
         e,
       )
 

@@ -138,11 +138,11 @@ module _ (img : List ℕ) (sized : length img ≡ image_size) (bytes : Bytes img
   unfolding memory_of
   memory_back z = zeros_after 16764 16384 (contents_of img 33 1) (contents_length img sized) (omega arith) z
 
-  page-back :
+  page_back :
       (s : State) (i : ℕ) → i < 33 → zeros (drop 16384 (contents_of img 33 1)) ≡ true
       → content s (memory_of img) (suc i) ≡ content_of img (suc i)
   unfolding content
-  page-back s i l z =
+  page_back s i l z =
       sym (padded_part 16764 (508 * i) 508 (memory_of img) (omega (arith, memory_length img sized)) (omega arith))
       ∙ ap (λ (t : List ℕ). take 508 (drop (508 * i) t)) (memory_back z)
       ∙ contents_part img i sized l
@@ -151,15 +151,15 @@ module _ (img : List ℕ) (sized : length img ≡ image_size) (bytes : Bytes img
   page_block_back : Sound img → (i : ℕ) → i < 33 → SoundBlock img (suc i) → block (state_of img) (memory_of img) (suc i) ≡ block_of img (suc i)
   unfolding block
   page_block_back k i l r =
-      ap (λ (c : List ℕ). checked (word_bytes (suc i) ++ c)) (page-back (state_of img) i l (filler_parts k).1)
+      ap (λ (c : List ℕ). checked (word_bytes (suc i) ++ c)) (page_back (state_of img) i l (filler_parts k).1)
       ∙ sym (block_apart (suc i) (omega arith) r)
 
   -- after block 0 an image in order is what would be written of the state and the memory that it holds
-  pub image-back :
+  pub image_back :
       Sound img → ((i : ℕ) → i < 34 → SoundBlock img i)
       → image (state_of img) (memory_of img) ≡ block (state_of img) (memory_of img) 0 ++ drop 512 img
   unfolding image block_of
-  image-back k right =
+  image_back k right =
       let made = block (state_of img) (memory_of img) in
       let same : (i : ℕ) → 1 ≤ i → i < 1 + 33 → made i ≡ block_of img i = λ i p l.
       rw (let e : i ≡ suc (i - 1) = omega arith in e) (page_block_back k (i - 1) (omega arith) (right (suc (i - 1)) (omega arith))) in

@@ -29,7 +29,7 @@ const EDITION: usize = 2;
 const ROM: usize = image_blocks::ROM_FIELD + 1;
 
 // A case: the image's edition, the kind of damage, and the class of its place.
-#[derive(Drop)]
+#[derive(Clone, Copy)]
 pub struct Case {
     pub edition: u16,
     pub kind: u16,

@@ -1,4 +1,6 @@
 // The 69 instructions: a word becomes an instruction with its fields.
+#![tactic(auto)]
+
 ghost use Rattle.std.specs.Prelude.{◌≡◌};
 ghost use Rattle.isa.specs.Isa as Isa;
 ghost use Rattle.isa.specs.Words as Words;
@@ -7,14 +9,14 @@ use memory::Width;
 use std::num;
 
 // A general operand: addressing mode 0 to 3 and register 0 to 15.
-#[derive(Drop)]
+#[derive(Clone, Copy)]
 pub struct Operand {
     pub mode: u16,
     pub register: u16,
 }
 
 // Two general operands, byte or word.
-#[derive(Drop)]
+#[derive(Clone, Copy)]
 pub enum DualOp {
     Szc,
     S,
@@ -25,7 +27,7 @@ pub enum DualOp {
 }
 
 // A general source and a register.
-#[derive(Drop)]
+#[derive(Clone, Copy)]
 pub enum RegisterOp {
     Coc,
     Czc,
@@ -35,7 +37,7 @@ pub enum RegisterOp {
 }
 
 // One general operand.
-#[derive(Drop)]
+#[derive(Clone, Copy)]
 pub enum SingleOp {
     B,
     Clr,
@@ -52,21 +54,21 @@ pub enum SingleOp {
 }
 
 // A transfer of several CRU bits.
-#[derive(Drop)]
+#[derive(Clone, Copy)]
 pub enum TransferOp {
     Ldcr,
     Stcr,
 }
 
 // An access to one CRU bit.
-#[derive(Drop)]
+#[derive(Clone, Copy)]
 pub enum BitOp {
     Sbo,
     Sbz,
     Tb,
 }
 
-#[derive(Drop)]
+#[derive(Clone, Copy)]
 pub enum JumpOp {
     Jmp,
     Jlt,
@@ -83,7 +85,7 @@ pub enum JumpOp {
     Jop,
 }
 
-#[derive(Drop)]
+#[derive(Clone, Copy)]
 pub enum ShiftOp {
     Sra,
     Srl,
@@ -92,7 +94,7 @@ pub enum ShiftOp {
 }
 
 // A register and an immediate word.
-#[derive(Drop)]
+#[derive(Clone, Copy)]
 pub enum ImmediateOp {
     Li,
     Ai,
@@ -102,7 +104,7 @@ pub enum ImmediateOp {
 }
 
 // No operand at all.
-#[derive(Drop)]
+#[derive(Clone, Copy)]
 pub enum ControlOp {
     Idle,
     Rset,
@@ -113,7 +115,7 @@ pub enum ControlOp {
 }
 
 // An instruction with its fields. Counts and displacements are as coded.
-#[derive(Drop)]
+#[derive(Clone, Copy)]
 pub enum Instruction {
     Dual {
         op: DualOp,

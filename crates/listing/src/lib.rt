@@ -13,7 +13,7 @@ use text::Text;
 pub const LEAST_BUFFER: usize = 48;
 
 // The number of document 02, how many bytes the line has, and how many words its instruction takes.
-#[derive(Drop)]
+#[derive(Clone, Copy)]
 pub struct ListAnswer {
     pub number: u16,
     pub length: usize,
@@ -21,7 +21,7 @@ pub struct ListAnswer {
 }
 
 // A line, and how many words its instruction takes.
-#[derive(Drop)]
+#[derive(Clone, Copy)]
 struct Listed {
     text: Text,
     words: u16,

@@ -91,26 +91,26 @@ module _ (b : CruBit) (x : Bool) (p : Psi) where
   by_control false z = renews (was_driven b false) p _ (rw (eq-eqb _ _ z)) refl refl
 
   -- bits 1 to 15 leave the read register
-  below-16 :
+  below_16 :
       (q : Psi) → 0 < b.0 → b.0 < 16 → q.reading ≡ p.reading
       → (writes_load (control p) (was_driven b x) ≡ false → q.decrementer ≡ p.decrementer)
       → Sight (was_driven b x) p q
   unfolding refreshes
-  below-16 q l h e d = leaves (was_driven b x) p q (rw (ne_eqb b.0 0 (omega arith)) (s0_low b.0 h)) e d
+  below_16 q l h e d = leaves (was_driven b x) p q (rw (ne_eqb b.0 0 (omega arith)) (s0_low b.0 h)) e d
 
   by_mask : 0 < b.0 → b.0 < 16 → Sight (was_driven b x) p (Cru.masked p b.0 x)
   unfolding Cru.masked
   by_mask l h =
-      either_way (Sight (was_driven b x) p) (eqb b.0 3) (λ e. below-16 _ l h refl (λ d. refl)) (λ e. below-16 _ l h refl (λ d. refl))
+      either_way (Sight (was_driven b x) p) (eqb b.0 3) (λ e. below_16 _ l h refl (λ d. refl)) (λ e. below_16 _ l h refl (λ d. refl))
 
   by_load : 0 < b.0 → b.0 < 16 → control p ≡ true → Sight (was_driven b x) p (Cru.timed p b.0 x)
   unfolding Cru.timed writes_load
   by_load l h c =
       either_way (Sight (was_driven b x) p) (eqb b.0 15)
-      (λ e. either_way (Sight (was_driven b x) p) x (λ y. below-16 _ l h refl (λ d. refl)) (λ y. below-16 _ l h refl (λ d. refl)))
+      (λ e. either_way (Sight (was_driven b x) p) x (λ y. below_16 _ l h refl (λ d. refl)) (λ y. below_16 _ l h refl (λ d. refl)))
       (λ e.
       let writes : writes_load (control p) (was_driven b x) ≡ true = rw (c, lt-ltb 0 b.0 l, lt-ltb b.0 15 (omega (arith, eqb-false b.0 15 e))) in
-      below-16 _ l h refl (λ d. cc))
+      below_16 _ l h refl (λ d. cc))
 
   -- what is written, and then S0, which is 0 below 16
   abbrev Written : Psi → Type 0

@@ -183,9 +183,9 @@ pub record Needed : Type 0 where
   pub czc : (v n x : ℕ) (m : Machine) → accesses v (G.register_effect Czc n x) m ≡ reads n m ∷ []
   pub xor : (v n x : ℕ) (m : Machine) → accesses v (G.register_effect Xor n x) m ≡ reads n m ∷ sets n (exclusive (held n m) x) m ∷ []
   pub mpy : (v n x : ℕ) (m : Machine) → accesses v (G.register_effect Mpy n x) m ≡ reads n m ∷ sets_pair n (product (held n m) x) m
-  pub div-overflows :
+  pub div_overflows :
       (v n x : ℕ) (m : Machine) → nat_le x (held n m) ≡ true → accesses v (G.register_effect Div n x) m ≡ reads n m ∷ []
-  pub div-fits :
+  pub div_fits :
       (v n x : ℕ) (m : Machine)
       → nat_le x (held n m) ≡ false
       → accesses v (G.register_effect Div n x) m
@@ -208,7 +208,7 @@ pub record Needed : Type 0 where
       (v : ℕ) (op : ShiftOp) (n c : ℕ) (m : Machine)
       → 0 < c
       → accesses v (G.shift op n c) m ≡ reads n m ∷ sets n (shifted op (held n m) c m.state.st).value m ∷ []
-  pub shift-by-r0 :
+  pub shift_by_r0 :
       (v : ℕ) (op : ShiftOp) (n : ℕ) (m : Machine)
       → accesses v (G.shift op n 0) m
       ≡ reads n m ∷ reads 0 m ∷ sets n (shifted op (held n m) (held 0 m) m.state.st).value m ∷ []

@@ -14,7 +14,7 @@ use memory::Width;
 use psi::CruBit;
 
 // A value that was read, and the state after the access.
-#[derive(Drop)]
+#[derive(Clone, Copy)]
 pub struct Loaded {
     pub value: u16,
     pub state: State,
@@ -153,7 +153,7 @@ pub fn set_flags(state: State, value: u16) -> State
 }
 
 // A CRU bit that was read, and the state after the access.
-#[derive(Drop)]
+#[derive(Clone, Copy)]
 pub struct SensedBit {
     pub value: bool,
     pub state: State,

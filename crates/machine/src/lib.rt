@@ -9,7 +9,7 @@ pub mod bus;
 
 // WP, PC and ST; `flags` has weight 1 where the machine is idle, or weight 2 where the next boundary takes no sample; with both the state
 // is not well formed. Stores at or above `rom` are dropped; it has 32 bits, because another board may have 65536 there.
-#[derive(Drop)]
+#[derive(Clone, Copy)]
 pub struct State {
     pub wp: u16,
     pub pc: u16,
@@ -20,7 +20,7 @@ pub struct State {
 }
 
 // What an instruction was, beyond its effect on the machine.
-#[derive(Drop)]
+#[derive(Clone, Copy)]
 pub enum Deed {
     // Nothing that is counted or noted.
     Ordinary,
@@ -33,14 +33,14 @@ pub enum Deed {
 }
 
 // What an executed word was, and the state after it.
-#[derive(Drop)]
+#[derive(Clone, Copy)]
 pub struct Executed {
     pub deed: Deed,
     pub state: State,
 }
 
 // What the request code stands for at a step's boundary.
-#[derive(Drop)]
+#[derive(Clone, Copy)]
 pub enum Signal {
     Reset,
     Load,
@@ -50,7 +50,7 @@ pub enum Signal {
 }
 
 // What a step answers; `Nothing` is for a run that did none.
-#[derive(Drop)]
+#[derive(Clone, Copy)]
 pub enum StepAnswer {
     // No step was done.
     Nothing,
@@ -143,7 +143,7 @@ impl State {
 
 // The run's answer: the number of document 01's table, the state, the steps done, how many of them met an unassigned word, and what
 // the last of them answered.
-#[derive(Drop)]
+#[derive(Clone, Copy)]
 pub struct RunAnswer {
     pub number: u16,
     pub state: State,
@@ -153,7 +153,7 @@ pub struct RunAnswer {
 }
 
 // An answer of a number and a state.
-#[derive(Drop)]
+#[derive(Clone, Copy)]
 pub struct StateAnswer {
     pub number: u16,
     pub state: State,

@@ -1,7 +1,7 @@
 -- What stores keep and what loads find, by induction on the number of bytes: each byte of an access lies at a place of its own, and a
 -- number is its highest bytes times 256 plus its lowest.
 use Prim.Native.Nat.{ℕ, zero, suc, ◌+◌, ◌*◌, ◌/◌, ◌%◌, ◌^◌, ◌<◌, ◌≤◌}
-use mathlib.Core.Path.{◌≡◌, refl, sym, ap, ap₂, ◌∙◌}
+use mathlib.Core.Path.{◌≡◌, refl, sym, ap, ap₂, subst, ◌∙◌}
 use mathlib.Core.Bool.{Bool, true, false, not, ◌&&◌, ◌||◌, or-true, or_assoc, true≢false}
 use mathlib.Core.List.{List, [], ◌∷◌, ◌++◌}
 use native.Mathlib.Omega.{arith}
@@ -100,7 +100,8 @@ unfolding covers places
 covers_at zero p j h = absurd (omega arith)
 covers_at (suc k) p zero h = rw (eq-eqb (p + zero) p (omega arith))
 covers_at (suc k) p (suc j) h =
-    rw (let e : p + suc j ≡ suc p + j = omega arith in e, covers_at k (suc p) j (omega arith)) (or-true (eqb (suc p + j) p))
+    let e : p + suc j ≡ suc p + j = omega arith in
+    subst (λ n. (eqb n p || covers n (places k (suc p))) ≡ true) (sym e) (rw (covers_at k (suc p) j (omega arith)) (or-true (eqb (suc p + j) p)))
 
 -- what follows from either part of a true disjunction follows from it
 pub or_either : (P : Type 0) (a b : Bool) → (a || b) ≡ true → (a ≡ true → P) → (b ≡ true → P) → P

@@ -1,4 +1,6 @@
 // Bytes and big-endian words of the lent memory.
+#![tactic(auto)]
+
 ghost use Rattle.std.specs.Prelude.{◌≡◌, ◌+◌, ◌*◌};
 ghost use Rattle.memory.specs.Memory as Memory;
 
@@ -6,7 +8,7 @@ ghost use Rattle.memory.specs.Memory as Memory;
 pub const SIZE: usize = 16384;
 
 // The width of an operand.
-#[derive(Drop)]
+#[derive(Clone, Copy)]
 pub enum Width {
     Byte,
     Word,

@@ -10,7 +10,7 @@ use memory::Width;
 use std::num;
 
 // The mnemonics, by the instructions' forms, with the operation where a form has several.
-#[derive(Drop)]
+#[derive(Clone, Copy)]
 pub enum Mnemonic {
     Dual { op: DualOp, width: Width },
     Register { op: RegisterOp },
@@ -33,7 +33,7 @@ pub enum Mnemonic {
 }
 
 // An operand as it is written, of one of seven kinds.
-#[derive(Drop)]
+#[derive(Clone, Copy)]
 pub enum Written {
     // A general operand with its further word, or 0 where it has none.
     General { operand: Operand, word: u16 },
@@ -49,21 +49,21 @@ pub enum Written {
 }
 
 // The operands, in order.
-#[derive(Drop)]
+#[derive(Clone, Copy)]
 pub enum Operands {
     None,
     One { only: Written },
     Two { first: Written, second: Written },
 }
 
-#[derive(Drop)]
+#[derive(Clone, Copy)]
 pub struct Notation {
     pub mnemonic: Mnemonic,
     pub operands: Operands,
 }
 
 // Three words, one after the other: an instruction's first, and the two behind it.
-#[derive(Drop)]
+#[derive(Clone, Copy)]
 pub struct Words {
     pub first: u16,
     pub second: u16,

@@ -16,10 +16,10 @@ module _ (s : Psi) (v : ℕ) where
     found : 0 < r → (r < n + k) × (requested s v r ≡ true) × ((m : ℕ) → n ≤ m → m < r → requested s v m ≡ false)
 
   -- one more request in front that is not requested
-  in-front :
+  in_front :
       (n b : ℕ) → requested s v n ≡ false → ((m : ℕ) → n + 1 ≤ m → m < b → requested s v m ≡ false) →
       (m : ℕ) → n ≤ m → m < b → requested s v m ≡ false
-  in-front n b e rest m lo hi =
+  in_front n b e rest m lo hi =
       elim (dec_lt n m) [
         | yes l ↦ rest m (omega arith) hi
         | no g ↦ subst (λ (i : ℕ). requested s v i ≡ false) (let q : n ≡ m = omega arith in q) e
@@ -28,8 +28,8 @@ module _ (s : Psi) (v : ℕ) where
   beyond : (k n r : ℕ) → requested s v n ≡ false → Of k (n + 1) r → Of (suc k) n r
   beyond k n r e o =
       record {
-        none = λ z m lo hi. in-front n (n + suc k) e (λ i l h. o.none z i l (omega arith)) m lo hi;
-        found = λ pos. let f = o.found pos in (omega (arith, f.0), f.1, in-front n r e f.2);
+        none = λ z m lo hi. in_front n (n + suc k) e (λ i l h. o.none z i l (omega arith)) m lo hi;
+        found = λ pos. let f = o.found pos in (omega (arith, f.0), f.1, in_front n r e f.2);
       }
 
   here : (k n : ℕ) → 0 < n → requested s v n ≡ true → Of (suc k) n n

@@ -36,9 +36,9 @@ module _ (s : Psi) (v : ℕ) where
   unfolding lowest
   lowest_here n h e = let d : 16 - n ≡ suc (15 - n) = omega arith in rw (d, e)
 
-  pub lowest-beyond :
+  pub lowest_beyond :
       (n : ℕ) → n < 16 → requested s v n ≡ false → lowest s v (16 - n) n ≡ lowest s v (16 - (n + 1)) (n + 1)
   unfolding lowest
-  lowest-beyond n h e =
+  lowest_beyond n h e =
       let d : 16 - n ≡ suc (16 - (n + 1)) = omega arith in
       rw (d, e)

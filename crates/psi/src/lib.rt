@@ -1,4 +1,6 @@
 // The TMS 9901: its clock, its CRU bits and its request code.
+#![tactic(auto)]
+
 ghost use Rattle.std.specs.Prelude.{◌≡◌, ◌<◌};
 ghost use Rattle.psi.specs.Psi as Own;
 ghost use Rattle.psi.specs.Pins as Pins;
@@ -11,7 +13,7 @@ mod pins;
 
 // The state. `mask` holds the control bit at weight 1 and request n's mask at weight 2^n; `direction` (1: output) and
 // `latch` have port n at weight 2^n; `reading` is the read register.
-#[derive(Drop)]
+#[derive(Clone, Copy)]
 pub struct Psi {
     pub mask: u16,
     pub direction: u16,
@@ -87,15 +89,15 @@ impl Psi {
 }
 
 // A number as R12 holds it.
-#[derive(Drop)]
+#[derive(Clone, Copy)]
 pub struct CruBase(pub u16);
 
 // The number of a CRU bit.
-#[derive(Drop)]
+#[derive(Clone, Copy)]
 pub struct CruBit(pub u16);
 
 // What reading a CRU bit gives: its value, and the PSI after the access.
-#[derive(Drop)]
+#[derive(Clone, Copy)]
 pub struct Sensed {
     pub value: bool,
     pub psi: Psi,
@@ -105,7 +107,7 @@ pub struct Sensed {
 const CYCLE: u32 = 1 << 22;
 
 // One pin record: 22 levels and the cycles before the step.
-#[derive(Drop)]
+#[derive(Clone, Copy)]
 pub struct Record {
     pub levels: u32,
     pub cycles: u32,

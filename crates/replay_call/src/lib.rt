@@ -13,7 +13,7 @@ use replay_files::{line, pins};
 use text::Text;
 
 // The number and the line.
-#[derive(Drop)]
+#[derive(Clone, Copy)]
 pub struct Replayed {
     pub number: u16,
     pub text: Text,

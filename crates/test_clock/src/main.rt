@@ -21,14 +21,14 @@ const FAR_LINES: u16 = 40;
 const FAR_CASES: u16 = 64;
 
 // The sum so far, and in how many cases pending became 1.
-#[derive(Drop)]
+#[derive(Clone, Copy)]
 struct Tally {
     sum: u32,
     pended: u16,
 }
 
 // The last case of the second part so far: the sum up to it, its cycles, and the PSI after them.
-#[derive(Drop)]
+#[derive(Clone, Copy)]
 struct Last {
     sum: u32,
     cycles: u32,

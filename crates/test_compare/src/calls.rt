@@ -4,7 +4,7 @@ use differing_runs::PLACES;
 use seeds::lines;
 
 // What comparing two images answered, and what it left in the first and the last places; the sums of all places, and of two calls more.
-#[derive(Drop)]
+#[derive(Clone, Copy)]
 pub struct Outcome {
     pub answer: CompareAnswer,
     pub ends: [u32; 4],
@@ -13,7 +13,7 @@ pub struct Outcome {
 }
 
 // How many pairs of a line were accepted, and the sum of what came of all.
-#[derive(Drop)]
+#[derive(Clone, Copy)]
 pub struct Tally {
     pub accepted: u64,
     pub sum: u32,

@@ -13,7 +13,7 @@ use seeds::below;
 
 // What makes two images differ: the bytes of the memory, the fields (weight 2^k for field k), and editions and damage of each; and whether
 // nothing is read-only in their base.
-#[derive(Drop)]
+#[derive(Clone, Copy)]
 pub struct Pair {
     pub pattern: Pattern,
     pub mask: u16,

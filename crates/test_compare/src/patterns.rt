@@ -5,7 +5,7 @@ ghost use Rattle.memory.specs.Memory.{Installed};
 use seeds::below;
 
 // `count` runs of `length` bytes, one in every `period` bytes from `start` on. Where `sparse` is not 0: one byte in so many instead.
-#[derive(Drop)]
+#[derive(Clone, Copy)]
 pub struct Pattern {
     pub start: u16,
     pub length: u16,

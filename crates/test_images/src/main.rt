@@ -24,7 +24,7 @@ const IMAGE: u16 = image_blocks::IMAGE_SIZE as u16;
 const BOTH_FLAGS: u16 = (1 << State::IDLE) + (1 << State::NO_SAMPLE);
 
 // What reading the image answered, and the sums of all answers of the case, of the memory and of the image.
-#[derive(Drop)]
+#[derive(Clone, Copy)]
 struct Outcome {
     number: u16,
     block: u16,

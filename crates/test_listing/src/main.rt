@@ -69,7 +69,7 @@ const SPARE: u16 = 16;
 const TEXT: usize = listing::LEAST_BUFFER + SPARE as usize;
 
 // The sum so far, how many calls were accepted, and the bytes of their lines.
-#[derive(Drop)]
+#[derive(Clone, Copy)]
 struct Tally {
     sum: u32,
     accepted: u32,

@@ -21,7 +21,7 @@ const STEPS: usize = 24;
 
 // The sum so far; how many steps that stayed in clock mode moved the read register, and how many left it, with another value than the
 // decrementer's.
-#[derive(Drop)]
+#[derive(Clone, Copy)]
 struct Tally {
     sum: u32,
     moved: u64,

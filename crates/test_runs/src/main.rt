@@ -22,7 +22,7 @@ const CALLS: u32 = 8;
 const MEMORY: u16 = memory::SIZE as u16;
 
 // The state that the last accepted call left, the sum so far, and the counts.
-#[derive(Drop)]
+#[derive(Clone, Copy)]
 struct Course {
     state: State,
     sum: u32,
@@ -31,7 +31,7 @@ struct Course {
 }
 
 // What a call is made with: the place of its first record, its most steps, its stop address.
-#[derive(Drop)]
+#[derive(Clone, Copy)]
 struct Plan {
     from: usize,
     steps: usize,

@@ -18,14 +18,14 @@ const CASES: u32 = 16;
 const STEPS: usize = 24;
 
 // The sum so far, and how many cases ended otherwise than without the read-only part.
-#[derive(Drop)]
+#[derive(Clone, Copy)]
 struct Tally {
     sum: u32,
     other: u64,
 }
 
 // The sum so far, and the state that some steps led to.
-#[derive(Drop)]
+#[derive(Clone, Copy)]
 struct Reached {
     sum: u32,
     state: State,

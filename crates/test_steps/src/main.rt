@@ -22,7 +22,7 @@ const THROUGH_AGAIN: u16 = 6;
 const READ_ONLY: u16 = 5;
 
 // The sum so far, and how many unassigned words there were.
-#[derive(Drop)]
+#[derive(Clone, Copy)]
 struct Tally {
     sum: u32,
     unassigned: u64,

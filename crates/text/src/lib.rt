@@ -6,7 +6,7 @@ ghost use Rattle.text.specs.Texts as Texts;
 pub const CAPACITY: usize = 128;
 
 // The text's bytes are the first `length` ones.
-#[derive(Drop)]
+#[derive(Clone, Copy)]
 pub struct Text {
     pub bytes: [u8; CAPACITY],
     pub length: usize,

@@ -1,8 +1,0 @@
--- `isa::immediate_operation` meets its contract: at each key the definition's tests compute, and the rest fails them all.
-use Rattle.std.proofs.Common.{ne_eqb}
-use Rattle.isa.specs.Isa.{immediate_operation}
-use Rattle.isa.proofs.immediate_operation.Statement.{statement}
-use Rattle.isa.proofs.immediate_operation.Tie as tie
-
-pub immediate_operation_spec : {M : Type 1} → statement M
-immediate_operation_spec = tie.close (tie.spec (λ c. unfold immediate_operation in (rw c.match.keys1)) (λ c. unfold immediate_operation in (rw c.match.keys2)) (λ c. unfold immediate_operation in (rw c.match.keys3)) (λ c. unfold immediate_operation in (rw c.match.keys4)) (λ c. unfold immediate_operation in (simp (ne_eqb _ _ c.match.rest.1, ne_eqb _ _ c.match.rest.0.1, ne_eqb _ _ c.match.rest.0.0.1, ne_eqb _ _ c.match.rest.0.0.0.1))))

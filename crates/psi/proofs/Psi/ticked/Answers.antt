@@ -1,0 +1,9 @@
+-- So many ticks at once are the ticks one by one.
+use borrow.Author.Rules.{rules}
+use Rattle.psi.proofs.AtOnce.{ticks_at_once}
+use Rattle.psi.proofs.Psi.ticked.Goals as goal
+
+pub returns : goal.returns
+returns c =
+    let start = c in
+    rw (ticks_at_once start.args.n start.args.self start.requires, c.followed.ensures, c.pending_after-pending.ensures, c.count_after-count.ensures)
