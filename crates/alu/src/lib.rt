@@ -1,4 +1,6 @@
 // Arithmetic and status over a width.
+#![tactic(auto)]
+
 pub mod products;
 pub mod shifts;
 pub mod status;

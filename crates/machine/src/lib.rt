@@ -1,4 +1,6 @@
 // The machine's state, and in specs/ all definitions of what the machine does.
+#![tactic(auto)]
+
 ghost use Rattle.std.specs.Prelude.{◌≡◌};
 ghost use Rattle.machine.specs.State as Own;
 ghost use Rattle.machine.specs.Perform as Perform;

@@ -6,8 +6,8 @@ use Rattle.isa.proofs.target.Goals as goal
 
 pub returns-then-displacement-lt128 : goal.returns-then-displacement-lt128
 unfolding target signed_byte
-returns-then-displacement-lt128 c = simp (lt-ltb _ _ c.if-displacement-lt128.true) (rw (c.wrapping_add_u16-ahead.ensures, c.wrapping_add_u16.ensures) (omega arith))
+returns-then-displacement-lt128 c = simp (lt-ltb _ _ c.if-displacement-lt128.true) (rw (c.wrapping_add_u16-ahead.ensures.value, c.wrapping_add_u16.ensures.value) (omega arith))
 
 pub returns-else-displacement-lt128 : goal.returns-else-displacement-lt128
 unfolding target signed_byte
-returns-else-displacement-lt128 c = simp (le-ltb _ _ c.if-displacement-lt128.false) (omega (arith, c.wrapping_sub_u16.ensures, c.wrapping_add_u16-ahead.ensures, c.wrapping_add_u16.ensures))
+returns-else-displacement-lt128 c = simp (le-ltb _ _ c.if-displacement-lt128.false) (omega (arith, c.wrapping_sub_u16.ensures.value, c.wrapping_add_u16-ahead.ensures.value, c.wrapping_add_u16.ensures.value))

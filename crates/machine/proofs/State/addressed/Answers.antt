@@ -1,0 +1,6 @@
+-- The PSI's own contract says what it is after the access; the rest stays.
+use Rattle.std.proofs.Common.{rules}
+use Rattle.machine.proofs.State.addressed.Goals as goal
+
+pub returns : goal.returns
+returns c = rw (c.with_psi.ensures, c.addressed-psi.ensures)
