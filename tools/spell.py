@@ -13,7 +13,7 @@ WORD = re.compile(r"[^\s(){}.;,@\"«»:`|]+")
 MARKS = r"(?:(?:abbrev|unfoldable|pub|pattern)\s+)*"
 KINDS = r"(?:(?:data|record|ruleset)\s+)?"
 TOP = re.compile(r"^" + MARKS + KINDS + MARKS + r"([^\s(){}.;,@\"«»:]+)(?=[\s({:])")
-INNER = re.compile(r"^\s+(?:pub\s+)?([^\s(){}.;,@\"«»:]+)\s+:(?:\s|$)")
+INNER = re.compile(r"^\s+(?:pub\s+)?([^\s(){}.;,@\"«»:]+(?:\s+[^\s(){}.;,@\"«»:]+)*)\s+:(?:\s|$)")
 USE = re.compile(r"^(?:pub )?use ([^\s{;]+?)(?:\.\{([^}]*)\})?(?: as [^\s;]+)?;?$", re.M)
 SPAN = re.compile(r"(\x60+)(?:[^\n]|\n(?!\s*\n))*?\1")
 OWN = re.compile(r"^Rattle\.(?:std|core|std_\w+)\.")
@@ -58,8 +58,8 @@ def own_names():
                     names.add(top[1])
             inner = INNER.match(line)
             if inner and not of_function:
-                names.add(inner[1])
-    return {name: respelled(name) for name in names if respelled(name) != name}
+                names.update(inner[1].split())
+    return names
 
 
 def kits_names(text):
@@ -103,7 +103,10 @@ def rust(text, table):
 def edit(text, table):
     lines = []
     for line in text.split("\n"):
-        lines.append(turned(line, table) if line.startswith(("old:", "new:")) else line)
+        if line.startswith(("old:", "new:")):
+            line = turned(line, table).replace("Rattle·", "Rattle.").replace(".the-variants.", ".TheVariants.")
+            line = re.sub(r"(?<=Prim\.Native\.Nat\.)_(\S+)_", r"◌\1◌", line)
+        lines.append(line)
     return "\n".join(lines)
 
 
@@ -113,7 +116,10 @@ def page(text, table):
 
 def main():
     os.chdir(sys.argv[1] if len(sys.argv) > 1 else ".")
-    table = own_names()
+    names = own_names()
+    table = {name: respelled(name) for name in names if respelled(name) != name}
+    # what port.py itself has respelled in specs/ and proofs/ still stands in edits and pages as it was
+    before = {name.replace("_", "-"): name for name in names if "_" in name.strip("_")} | table
     edits = {os.path.basename(p)[: -len(".edit")] for p in files("crates", ".edit")}
     new = {}
     for old, name in sorted(table.items()):
@@ -125,7 +131,8 @@ def main():
         stay = kits_names(old) if path.endswith(".antt") else set()
         if path.endswith(".md"):
             stay = edits
-        own = {name: to for name, to in table.items() if name not in stay}
+        names_here = before if path.endswith((".edit", ".md")) else table
+        own = {name: to for name, to in names_here.items() if name not in stay}
         turn = {".antt": antt, ".rt": rust, ".edit": edit, ".md": page}[os.path.splitext(path)[1]]
         text = turn(old, own)
         if text != old:
