@@ -108,8 +108,8 @@ raised_sum w a b =
     let x : ℕ = raised w a in
     let y : ℕ = raised w b in
     let h : ℕ = half w in
-    let low-side : ltb (x + y + h) (h + h) ≡ ltb (x + y) h = moved (x + y + h) (h + h) (x + y) h (omega arith) in
-    rw (raised_is_signed w a, raised_is_signed w b, sum x h y h, outside_is w (x + y) (h + h), low-side)
+    let low_side : ltb (x + y + h) (h + h) ≡ ltb (x + y) h = moved (x + y + h) (h + h) (x + y) h (omega arith) in
+    rw (raised_is_signed w a, raised_is_signed w b, sum x h y h, outside_is w (x + y) (h + h), low_side)
     (ap (λ (k : ℕ). ltb (x + y) h || leb k (x + y)) (omega (arith, twice w)))
 
 pub raised_difference : RaisedDifference
@@ -118,8 +118,8 @@ raised_difference w d s =
     let x : ℕ = raised w d in
     let y : ℕ = raised w s in
     let h : ℕ = half w in
-    let low-side : ltb (x + h + h) (h + y) ≡ ltb (x + h) y = moved (x + h + h) (h + y) (x + h) y (omega arith) in
-    rw (raised_is_signed w d, raised_is_signed w s, opposite y h, sum x h h y, outside_is w (x + h) (h + y), low-side)
+    let low_side : ltb (x + h + h) (h + y) ≡ ltb (x + h) y = moved (x + h + h) (h + y) (x + h) y (omega arith) in
+    rw (raised_is_signed w d, raised_is_signed w s, opposite y h, sum x h h y, outside_is w (x + h) (h + y), low_side)
     (ap (λ (b : Bool). ltb (x + h) y || b)
     (either_side (x + h) (h + (h + y))
     (λ l. lt-leb (h + (h + y)) (x + h) l ∙ sym (lt-leb (y + h) x (omega arith)))

@@ -5,7 +5,7 @@ use Rattle.psi.specs.Pins.{parted}
 use Rattle.machine.specs.declared.Deed.TheVariants.{Ordinary, Unassigned, Switched, Returned}
 use Rattle.machine.specs.State.{Machine, at}
 use Rattle.machine.specs.Perform.{Access, accesses, fetches, written}
-use Rattle.machine.specs.Step.{Kind, was-reset, was-load, was-idle, was_level, ran, clocked, stepping, step}
+use Rattle.machine.specs.Step.{Kind, was_reset, was_load, was_idle, was_level, ran, clocked, stepping, step}
 use Rattle.machine.specs.Run.{run_refusal, run}
 
 -- a note: the new WP, and the WP, PC and ST that are noted
@@ -48,9 +48,9 @@ note word m n =
 
 -- A level entered, LOAD, XOP or BLWP adds a note; for XOP and BLWP the noted PC counts the words fetched at the PC.
 unfoldable pub event_of : ℕ → Machine → Kind → Event
-event_of word m was-reset = cleared
-event_of word m was-load = opened (note word m 0)
-event_of word m was-idle = other
+event_of word m was_reset = cleared
+event_of word m was_load = opened (note word m 0)
+event_of word m was_idle = other
 event_of word m (was_level k) = opened (note word m 0)
 event_of word m (ran Ordinary) = other
 event_of word m (ran Unassigned) = other

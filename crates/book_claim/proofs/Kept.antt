@@ -15,7 +15,7 @@ use Rattle.machine.specs.declared.Deed.TheVariants.{Ordinary, Unassigned, Switch
 use Rattle.machine.specs.State.{Machine}
 use Rattle.machine.specs.Perform.{fetches, written}
 use Rattle.machine.specs.Operands.{register_at}
-use Rattle.machine.specs.Step.{Kind, was-reset, was-load, was-idle, was_level, ran, clocked, stepping, step}
+use Rattle.machine.specs.Step.{Kind, was_reset, was_load, was_idle, was_level, ran, clocked, stepping, step}
 use Rattle.machine.proofs.Laws.{keeps_the_rest}
 use Rattle.machine.proofs.ReadOnly.{step_keeps_read_only}
 use Rattle.book.specs.Book.{Note, Book, Event, opened, returned, cleared, other, turn, note, step_accesses, event_of, event, moment}
@@ -104,9 +104,9 @@ module _ (word : ℕ) (m : Machine) (h : Sound m) where
       (k : Kind) → Meaning k m (step word m).machine (fetches (step_accesses word m))
       → Saved (event_of word m k) m.state.rom → Brought (event_of word m k) m (step word m).machine
   unfolding Brought Meaning Meant Saved event_of
-  brought_by was-reset d below = tt
-  brought_by was-load d below = new_note 0 d below
-  brought_by was-idle d below = tt
+  brought_by was_reset d below = tt
+  brought_by was_load d below = new_note 0 d below
+  brought_by was_idle d below = tt
   brought_by (was_level k) d below = new_note 0 d below
   brought_by (ran Ordinary) d below = tt
   brought_by (ran Unassigned) d below = tt

@@ -10,16 +10,16 @@ use Rattle.psi.specs.Cru as Cru
 use Rattle.machine.specs.declared.State.{State}
 use Rattle.machine.specs.State.{Machine}
 use Rattle.machine.specs.State as Own
-use Rattle.machine.specs.Micro.{Target, to-wp, to-pc, to-st, to-flags, Micro, done, look, assign, fetch, read, write, sense, drive}
+use Rattle.machine.specs.Micro.{Target, to_wp, to_pc, to_st, to_flags, Micro, done, look, assign, fetch, read, write, sense, drive}
 use Rattle.machine.specs.Perform.{perform, accesses, fetches, after_assign, after_fetch, after_read, after_write, after_sense, after_drive}
 use Rattle.machine.proofs.Loads.{Loads}
 
 -- the flags alone: WP, PC and ST are never loaded
 abbrev OnlyFlags : Target → Type 0
-OnlyFlags to-wp = ⊥
-OnlyFlags to-pc = ⊥
-OnlyFlags to-st = ⊥
-OnlyFlags to-flags = Unit
+OnlyFlags to_wp = ⊥
+OnlyFlags to_pc = ⊥
+OnlyFlags to_st = ⊥
+OnlyFlags to_flags = Unit
 
 abbrev pub Steady : {A : Type 0} → Micro A → Type 0
 Steady p = Loads OnlyFlags p
@@ -37,11 +37,11 @@ pub held :
 unfolding Loads perform accesses fetches
 held v (done a) m q h = record { wp = refl; pc = omega arith; st = refl }
 held v (look k) m q h = held v (k (Own.registers m.state)) m (q (Own.registers m.state)) h
-held v (assign to-wp x k) m q h = absurd q.0
-held v (assign to-pc x k) m q h = absurd q.0
-held v (assign to-st x k) m q h = absurd q.0
-held v (assign to-flags x k) m q h =
-    let r = held v k (after_assign to-flags x m) q.1 h in
+held v (assign to_wp x k) m q h = absurd q.0
+held v (assign to_pc x k) m q h = absurd q.0
+held v (assign to_st x k) m q h = absurd q.0
+held v (assign to_flags x k) m q h =
+    let r = held v k (after_assign to_flags x m) q.1 h in
     record { wp = r.wp; pc = r.pc; st = r.st }
 held v (fetch k) m q h =
     let x : ℕ = loaded Word m.memory m.state.pc in

@@ -9,13 +9,13 @@ use Rattle.psi.proofs.Kept.{kept_fits}
 use Rattle.machine.specs.declared.Deed.TheVariants.{Ordinary, Unassigned, Switched, Returned}
 use Rattle.machine.specs.State.{Machine, idle, no_sample}
 use Rattle.machine.specs.State as Own
-use Rattle.machine.specs.Micro.{Micro, done, to-flags, ◌>>=◌, registers, set, fetched}
+use Rattle.machine.specs.Micro.{Micro, done, to_flags, ◌>>=◌, registers, set, fetched}
 use Rattle.machine.specs.Perform.{perform, accesses, fetches}
 use Rattle.machine.specs.Groups.{masked}
 use Rattle.machine.specs.Execute.{execute, allowance}
 use Rattle.machine.specs.declared.Signal.{Signal}
 use Rattle.machine.specs.declared.Signal.TheVariants.{Reset as reset, Load as load, Nothing as none, Level as level}
-use Rattle.machine.specs.Step.{Kind, was-reset, was-load, was-idle, was_level, ran, signal, admitted, enter, proceed, boundary, clocked, stepping, step}
+use Rattle.machine.specs.Step.{Kind, was_reset, was_load, was_idle, was_level, ran, signal, admitted, enter, proceed, boundary, clocked, stepping, step}
 use Rattle.machine.proofs.Laws.{Form}
 use Rattle.machine.proofs.Flags.{step_form}
 use Rattle.machine.proofs.Loads.{registers_loads, set_loads, fetched_loads}
@@ -27,40 +27,40 @@ use Rattle.book_claim.proofs.Execute.{Meant, meant_movable, executed}
 
 -- what a step of each kind has done
 unfoldable pub Meaning : Judgement Kind
-Meaning was-reset m n words = Unit
-Meaning was-load m n words = Standing n (noted m n 0)
-Meaning was-idle m n words = Unit
+Meaning was_reset m n words = Unit
+Meaning was_load m n words = Standing n (noted m n 0)
+Meaning was_idle m n words = Unit
 Meaning (was_level k) m n words = Standing n (noted m n 0)
 Meaning (ran d) m n words = Meant d m n words
 
 -- the same of a step that enters nothing
 Proceeded : Judgement Kind
-Proceeded was-reset m n words = ⊥
-Proceeded was-load m n words = ⊥
-Proceeded was-idle m n words = Unit
+Proceeded was_reset m n words = ⊥
+Proceeded was_load m n words = ⊥
+Proceeded was_idle m n words = Unit
 Proceeded (was_level k) m n words = ⊥
 Proceeded (ran d) m n words = Meant d m n words
 
 proceeded_movable : Movable Proceeded
 unfolding Proceeded
-proceeded_movable was-reset l m n i j h d = d
-proceeded_movable was-load l m n i j h d = d
-proceeded_movable was-idle l m n i j h d = tt
+proceeded_movable was_reset l m n i j h d = d
+proceeded_movable was_load l m n i j h d = d
+proceeded_movable was_idle l m n i j h d = tt
 proceeded_movable (was_level k) l m n i j h d = d
 proceeded_movable (ran e) l m n i j h d = meant_movable e l m n i j h d
 
 proceeded_means : (k : Kind) (m n : Machine) (words : ℕ) → Proceeded k m n words → Meaning k m n words
 unfolding Proceeded Meaning
-proceeded_means was-reset m n words d = absurd d
-proceeded_means was-load m n words d = absurd d
-proceeded_means was-idle m n words d = tt
+proceeded_means was_reset m n words d = absurd d
+proceeded_means was_load m n words d = absurd d
+proceeded_means was_idle m n words d = tt
 proceeded_means (was_level k) m n words d = absurd d
 proceeded_means (ran e) m n words d = d
 
-flags_steady : (x : ℕ) → Steady (set to-flags x)
-flags_steady x = set_loads _ to-flags x tt
+flags_steady : (x : ℕ) → Steady (set to_flags x)
+flags_steady x = set_loads _ to_flags x tt
 
-idles : Does Proceeded (done was-idle)
+idles : Does Proceeded (done was_idle)
 unfolding Proceeded perform
 idles v m h = tt
 
@@ -75,14 +75,14 @@ proceeds : Does Proceeded proceed
 unfolding proceed
 proceeds =
     follow registers _ (registers_loads _)
-    (λ r. does_if Proceeded (bit idle r.flags) (done was-idle) _ idles
-    (follow (set to-flags (put no_sample false r.flags)) _ (flags_steady _)
+    (λ r. does_if Proceeded (bit idle r.flags) (done was_idle) _ idles
+    (follow (set to_flags (put no_sample false r.flags)) _ (flags_steady _)
     (λ u. follow fetched _ (fetched_loads _) runs_word)))
 
 bounds : (s : Signal) → Does Meaning (boundary s)
 unfolding boundary Meaning
-bounds reset = then_done (λ u m n i. Unit) Meaning (λ u. was-reset) (λ u m n i t. tt) (enter 0 (λ st. 0)) (λ v m h. tt)
-bounds load = then_done _ Meaning (λ u. was-load) (λ u m n i t. t) (enter 0x3FFC (masked 0)) (enter_saves 0x3FFC (masked 0))
+bounds reset = then_done (λ u m n i. Unit) Meaning (λ u. was_reset) (λ u m n i t. tt) (enter 0 (λ st. 0)) (λ v m h. tt)
+bounds load = then_done _ Meaning (λ u. was_load) (λ u m n i t. t) (enter 0x3FFC (masked 0)) (enter_saves 0x3FFC (masked 0))
 bounds none = λ v m h. proceeded_means _ m _ _ (proceeds v m h)
 bounds (level k) =
     then_done _ Meaning (λ u. was_level k) (λ u m n i t. t) (enter (4 * k % 65536) (masked (k - 1))) (enter_saves (4 * k % 65536) (masked (k - 1)))
@@ -91,9 +91,9 @@ bounds (level k) =
 clocked_means :
     (cycles : ℕ) (k : Kind) (m n : Machine) (words : ℕ) → Meaning k (clocked cycles m) n words → Meaning k m n words
 unfolding Meaning Meant
-clocked_means cycles was-reset m n words d = d
-clocked_means cycles was-load m n words d = d
-clocked_means cycles was-idle m n words d = d
+clocked_means cycles was_reset m n words d = d
+clocked_means cycles was_load m n words d = d
+clocked_means cycles was_idle m n words d = d
 clocked_means cycles (was_level k) m n words d = d
 clocked_means cycles (ran Ordinary) m n words d = d
 clocked_means cycles (ran Unassigned) m n words d = d

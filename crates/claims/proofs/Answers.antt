@@ -27,7 +27,7 @@ use Rattle.machine.specs.State.{Machine, at}
 use Rattle.machine.specs.Micro.{Micro, set, fetched, load}
 use Rattle.machine.specs.Perform.{perform}
 use Rattle.machine.specs.Execute.{command_deed, instruction, again, execute, allowance}
-use Rattle.machine.specs.Step.{Kind, was-reset, was-load, was-idle, was_level, ran, boundary, proceed, step}
+use Rattle.machine.specs.Step.{Kind, was_reset, was_load, was_idle, was_level, ran, boundary, proceed, step}
 use Rattle.machine.specs.Answer.{told_word, told, as_told, answer, latest, number}
 use Rattle.machine.specs.Run.{Ran, one_more, runs, run_refusal, RunResult, run}
 use Rattle.run_rules.proofs.Laws.{latest_answer, goes_on}
@@ -104,9 +104,9 @@ BegunAt pc (Unassigned p) = p ≡ pc
 
 begun_at : (pc : ℕ) (k : Kind) → BegunAt pc (told pc k)
 unfolding BegunAt told told_word
-begun_at pc was-reset = tt
-begun_at pc was-load = tt
-begun_at pc was-idle = tt
+begun_at pc was_reset = tt
+begun_at pc was_load = tt
+begun_at pc was_idle = tt
 begun_at pc (was_level k) = tt
 begun_at pc (ran deed.Ordinary) = tt
 begun_at pc (ran deed.Unassigned) = refl

@@ -14,7 +14,7 @@ use Rattle.machine.specs.Micro.{registers, set, load, store}
 use Rattle.machine.specs.Perform.{accesses}
 use Rattle.machine.specs.Operands.{set_register}
 use Rattle.machine.specs.Groups as G
-use Rattle.machine.specs.Step.{Kind, was-reset, was-load, was-idle, was_level, ran, vector, enter, boundary, step}
+use Rattle.machine.specs.Step.{Kind, was_reset, was_load, was_idle, was_level, ran, vector, enter, boundary, step}
 use Rattle.machine.specs.Answer.{told, as_told, answer}
 use Rattle.machine.specs.Flags.{FlagsByWord, FlagsByStep}
 use Rattle.machine.specs.Order.{switching}
@@ -30,10 +30,10 @@ use Rattle.claims.proofs.Interrupts.{step_accesses_are, taken_step}
 accessed : (pc : ℕ) (k : Kind) → Caused k → (v : ℕ) (m : Machine)
     → accesses v (boundary (taken (told pc k))) m ≡ switching (vector (taken (told pc k))) m
 unfolding accesses registers set load store set_register G.set_status G.switch enter boundary Caused taken told
-accessed pc was-reset c v m = refl
-accessed pc was-load c v m = refl
+accessed pc was_reset c v m = refl
+accessed pc was_load c v m = refl
 accessed pc (was_level k) c v m = refl
-accessed pc was-idle c v m = absurd c
+accessed pc was_idle c v m = absurd c
 accessed pc (ran d) c v m = absurd c
 
 pub entries_access : EntriesAccess
@@ -56,10 +56,10 @@ entries_leave_the_psi word m c =
 -- the flags after an entry of the five, and after one that the pins cause
 unsampled : (k : Kind) (e f : ℕ) → Entry k → FlagsByStep k e f → bit no_sample f ≡ true
 unfolding bit Entry FlagsByStep FlagsByWord
-unsampled was-reset e f c h = rw h
-unsampled was-load e f c h = rw h
+unsampled was_reset e f c h = rw h
+unsampled was_load e f c h = rw h
 unsampled (was_level k) e f c h = rw h
-unsampled was-idle e f c h = absurd c
+unsampled was_idle e f c h = absurd c
 unsampled (ran Ordinary) e f c h = absurd c
 unsampled (ran Unassigned) e f c h = absurd c
 unsampled (ran Switched) e f c h = rw h
@@ -67,10 +67,10 @@ unsampled (ran Returned) e f c h = absurd c
 
 awake : (k : Kind) (e f : ℕ) → Caused k → FlagsByStep k e f → bit idle f ≡ false
 unfolding bit Caused FlagsByStep
-awake was-reset e f c h = rw h
-awake was-load e f c h = rw h
+awake was_reset e f c h = rw h
+awake was_load e f c h = rw h
 awake (was_level k) e f c h = rw h
-awake was-idle e f c h = absurd c
+awake was_idle e f c h = absurd c
 awake (ran d) e f c h = absurd c
 
 pub entries_set_no_sample : EntriesSetNoSample

@@ -9,7 +9,7 @@ use Rattle.psi.specs.Pins.{parted}
 use Rattle.machine.specs.State.{Machine, idle, no_sample}
 use Rattle.machine.specs.declared.Deed.TheVariants.{Ordinary, Unassigned, Switched, Returned}
 use Rattle.machine.specs.Perform.{Access}
-use Rattle.machine.specs.Step.{Kind, was-reset, was-load, was-idle, was_level, ran, vector, clocked, step}
+use Rattle.machine.specs.Step.{Kind, was_reset, was_load, was_idle, was_level, ran, vector, clocked, step}
 use Rattle.machine.specs.Answer.{answer}
 use Rattle.machine.specs.Order.{switching}
 use Rattle.machine.specs.Refresh.{some_refreshes}
@@ -18,18 +18,18 @@ use Rattle.claims.specs.Interrupts.{taken}
 
 -- an entry that the pins cause: reset, LOAD or an interrupt
 unfoldable pub Caused : Kind → Type 0
-Caused was-reset = Unit
-Caused was-load = Unit
+Caused was_reset = Unit
+Caused was_load = Unit
 Caused (was_level k) = Unit
-Caused was-idle = ⊥
+Caused was_idle = ⊥
 Caused (ran d) = ⊥
 
 -- an entry of the five: those, and XOP and BLWP, through X too
 unfoldable pub Entry : Kind → Type 0
-Entry was-reset = Unit
-Entry was-load = Unit
+Entry was_reset = Unit
+Entry was_load = Unit
 Entry (was_level k) = Unit
-Entry was-idle = ⊥
+Entry was_idle = ⊥
 Entry (ran Ordinary) = ⊥
 Entry (ran Unassigned) = ⊥
 Entry (ran Switched) = Unit

@@ -23,7 +23,7 @@ use Rattle.machine.specs.Perform.{perform}
 use Rattle.machine.specs.Operands.{set_register, operand}
 use Rattle.machine.specs.Groups as G
 use Rattle.machine.specs.Execute.{command_deed, instruction, again, execute, allowance}
-use Rattle.machine.specs.Step.{Kind, was-reset, was-load, was-idle, was_level, ran, vector, entry_status, enter, proceed, boundary, clocked, stepping, step}
+use Rattle.machine.specs.Step.{Kind, was_reset, was_load, was_idle, was_level, ran, vector, entry_status, enter, proceed, boundary, clocked, stepping, step}
 use Rattle.machine.specs.Flags.{FlagsByWord, FlagsByStep, StepsTellTheFlags, KeepsWellFormed}
 use Rattle.machine.proofs.Bind.{perform_bind, perform_done}
 use Rattle.machine.proofs.Laws.{keeps_even, keeps_the_psi_formed, Form, form, formed}
@@ -156,10 +156,10 @@ steps_tell_the_flags word m = bounds _ _ _
 -- so flags of at most 2 stay so, whatever the step was
 at_most_2 : (k : Kind) (e f : ℕ) → FlagsByStep k e f → e ≤ 2 → f ≤ 2
 unfolding FlagsByStep FlagsByWord
-at_most_2 was-reset e f h l = omega arith
-at_most_2 was-load e f h l = omega arith
+at_most_2 was_reset e f h l = omega arith
+at_most_2 was_load e f h l = omega arith
 at_most_2 (was_level k) e f h l = omega arith
-at_most_2 was-idle e f h l = omega (arith, h.1)
+at_most_2 was_idle e f h l = omega (arith, h.1)
 at_most_2 (ran deed.Ordinary) e f h l = omega arith
 at_most_2 (ran deed.Unassigned) e f h l = omega arith
 at_most_2 (ran deed.Switched) e f h l = omega arith

@@ -13,7 +13,7 @@ use Rattle.psi.proofs.Cases.{either_way}
 use Rattle.psi.proofs.Kept as Psi
 use Rattle.machine.specs.declared.State.{State}
 use Rattle.machine.specs.State.{Machine, registers, well_formed}
-use Rattle.machine.specs.Micro.{done, look, assign, fetch, read, write, sense, drive, Target, to-wp, to-pc, to-st, to-flags}
+use Rattle.machine.specs.Micro.{done, look, assign, fetch, read, write, sense, drive, Target, to_wp, to_pc, to_st, to_flags}
 use Rattle.machine.specs.Perform.{dropped, received, reached, perform, accesses, written, after_assign, after_fetch, after_read, after_write, after_sense, after_drive, assigned}
 use Rattle.machine.specs.Laws.{KeepsTheRest, KeepsTheLength, KeepsBytes, Even, KeepsEven, Words, KeepsWords, KeepsThePsiFormed}
 
@@ -52,10 +52,10 @@ received_frame first w m a x i = by_test (dropped first w a)
 
 -- loading a register leaves the read-only address
 pub assigned_rom : (t : Target) (x : ℕ) (s : State) → (assigned t x s).rom ≡ s.rom
-assigned_rom to-wp x s = refl
-assigned_rom to-pc x s = refl
-assigned_rom to-st x s = refl
-assigned_rom to-flags x s = refl
+assigned_rom to_wp x s = refl
+assigned_rom to_pc x s = refl
+assigned_rom to_st x s = refl
+assigned_rom to_flags x s = refl
 
 pub keeps_the_rest : {A : Type 0} → KeepsTheRest A
 unfolding perform accesses written
@@ -98,10 +98,10 @@ keeps_bytes v (sense b k) m h = keeps_bytes v (k (Cru.sensed m.state.psi v b).va
 keeps_bytes v (drive b x k) m h = keeps_bytes v k (after_drive b x m) h
 
 even_assigned : (t : Target) (x : ℕ) (m : Machine) → Even m.state → Even (assigned t x m.state)
-even_assigned to-wp x m h = record { wp = omega arith; pc = h.pc }
-even_assigned to-pc x m h = record { wp = h.wp; pc = omega arith }
-even_assigned to-st x m h = record { wp = h.wp; pc = h.pc }
-even_assigned to-flags x m h = record { wp = h.wp; pc = h.pc }
+even_assigned to_wp x m h = record { wp = omega arith; pc = h.pc }
+even_assigned to_pc x m h = record { wp = h.wp; pc = omega arith }
+even_assigned to_st x m h = record { wp = h.wp; pc = h.pc }
+even_assigned to_flags x m h = record { wp = h.wp; pc = h.pc }
 
 pub keeps_even : {A : Type 0} → KeepsEven A
 unfolding perform
@@ -117,10 +117,10 @@ keeps_even v (sense b k) m h =
 keeps_even v (drive b x k) m h = keeps_even v k (after_drive b x m) (record { wp = h.wp; pc = h.pc })
 
 words_assigned : (t : Target) (x : ℕ) (m : Machine) → Words m.state → Words (assigned t x m.state)
-words_assigned to-wp x m h = record { wp = omega arith; pc = h.pc; st = h.st; flags = h.flags; psi = h.psi }
-words_assigned to-pc x m h = record { wp = h.wp; pc = omega arith; st = h.st; flags = h.flags; psi = h.psi }
-words_assigned to-st x m h = record { wp = h.wp; pc = h.pc; st = omega arith; flags = h.flags; psi = h.psi }
-words_assigned to-flags x m h = record { wp = h.wp; pc = h.pc; st = h.st; flags = omega arith; psi = h.psi }
+words_assigned to_wp x m h = record { wp = omega arith; pc = h.pc; st = h.st; flags = h.flags; psi = h.psi }
+words_assigned to_pc x m h = record { wp = h.wp; pc = omega arith; st = h.st; flags = h.flags; psi = h.psi }
+words_assigned to_st x m h = record { wp = h.wp; pc = h.pc; st = omega arith; flags = h.flags; psi = h.psi }
+words_assigned to_flags x m h = record { wp = h.wp; pc = h.pc; st = h.st; flags = omega arith; psi = h.psi }
 
 pub keeps_words : {A : Type 0} → KeepsWords A
 unfolding perform
@@ -147,10 +147,10 @@ pub keeps_the_psi_formed : {A : Type 0} → KeepsThePsiFormed A
 unfolding perform
 keeps_the_psi_formed v (done a) m h = h
 keeps_the_psi_formed v (look k) m h = keeps_the_psi_formed v (k (registers m.state)) m h
-keeps_the_psi_formed v (assign to-wp x k) m h = keeps_the_psi_formed v k (after_assign to-wp x m) h
-keeps_the_psi_formed v (assign to-pc x k) m h = keeps_the_psi_formed v k (after_assign to-pc x m) h
-keeps_the_psi_formed v (assign to-st x k) m h = keeps_the_psi_formed v k (after_assign to-st x m) h
-keeps_the_psi_formed v (assign to-flags x k) m h = keeps_the_psi_formed v k (after_assign to-flags x m) h
+keeps_the_psi_formed v (assign to_wp x k) m h = keeps_the_psi_formed v k (after_assign to_wp x m) h
+keeps_the_psi_formed v (assign to_pc x k) m h = keeps_the_psi_formed v k (after_assign to_pc x m) h
+keeps_the_psi_formed v (assign to_st x k) m h = keeps_the_psi_formed v k (after_assign to_st x m) h
+keeps_the_psi_formed v (assign to_flags x k) m h = keeps_the_psi_formed v k (after_assign to_flags x m) h
 keeps_the_psi_formed v (fetch k) m h =
     keeps_the_psi_formed v (k (loaded Word m.memory m.state.pc)) (after_fetch m) ((Psi.kept_formed).address m.state.pc h)
 keeps_the_psi_formed v (read w a k) m h =

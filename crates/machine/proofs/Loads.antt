@@ -26,7 +26,7 @@ use Rattle.alu.specs.declared.Outcome.{Outcome}
 use Rattle.alu.specs.declared.Pair.{Pair}
 use Rattle.machine.specs.State.{Registers, Machine}
 use Rattle.machine.specs.State as State
-use Rattle.machine.specs.Micro.{Target, to-wp, to-pc, to-st, to-flags, Micro, done, look, assign, fetch, read, write, sense, drive, ◌>>=◌, registers, set, fetched, load, store, sensed, driven}
+use Rattle.machine.specs.Micro.{Target, to_wp, to_pc, to_st, to_flags, Micro, done, look, assign, fetch, read, write, sense, drive, ◌>>=◌, registers, set, fetched, load, store, sensed, driven}
 use Rattle.machine.specs.Perform.{perform, after_assign, after_fetch, after_read, after_write, after_sense, after_drive}
 use Rattle.machine.specs.Operands.{register, set_register, indexed, stepped, operand}
 use Rattle.machine.specs.Groups as G
@@ -116,10 +116,10 @@ module _ (P : Target → Type 0) where
 
 -- all registers but the flags
 abbrev NotFlags : Target → Type 0
-NotFlags to-wp = Unit
-NotFlags to-pc = Unit
-NotFlags to-st = Unit
-NotFlags to-flags = ⊥
+NotFlags to_wp = Unit
+NotFlags to_pc = Unit
+NotFlags to_st = Unit
+NotFlags to_flags = ⊥
 
 abbrev pub Flagless : {A : Type 0} → Micro A → Type 0
 Flagless p = Loads NotFlags p
@@ -128,10 +128,10 @@ pub flags_left : {A : Type 0} (v : ℕ) (p : Micro A) (m : Machine) → Flagless
 unfolding Loads perform
 flags_left v (done a) m h = refl
 flags_left v (look k) m h = flags_left v (k (State.registers m.state)) m (h _)
-flags_left v (assign to-wp x k) m h = flags_left v k (after_assign to-wp x m) h.1
-flags_left v (assign to-pc x k) m h = flags_left v k (after_assign to-pc x m) h.1
-flags_left v (assign to-st x k) m h = flags_left v k (after_assign to-st x m) h.1
-flags_left v (assign to-flags x k) m h = absurd h.0
+flags_left v (assign to_wp x k) m h = flags_left v k (after_assign to_wp x m) h.1
+flags_left v (assign to_pc x k) m h = flags_left v k (after_assign to_pc x m) h.1
+flags_left v (assign to_st x k) m h = flags_left v k (after_assign to_st x m) h.1
+flags_left v (assign to_flags x k) m h = absurd h.0
 flags_left v (fetch k) m h = flags_left v (k (loaded Word m.memory m.state.pc)) (after_fetch m) (h _)
 flags_left v (read w a k) m h = flags_left v (k (loaded w m.memory a)) (after_read a m) (h _)
 flags_left v (write w a x k) m h = flags_left v k (after_write w a x m) h

@@ -14,7 +14,7 @@ use Rattle.psi.specs.Cru.{memory_select, cru_select}
 use Rattle.psi.proofs.Cases.{either_way}
 use Rattle.psi.proofs.Select.{s0_low}
 use Rattle.machine.specs.State.{registers}
-use Rattle.machine.specs.Micro.{done, look, assign, fetch, read, write, sense, drive, to-wp, to-pc, to-st, to-flags}
+use Rattle.machine.specs.Micro.{done, look, assign, fetch, read, write, sense, drive, to_wp, to_pc, to_st, to_flags}
 use Rattle.machine.specs.Perform.{perform, Access, was_fetched, was_read, was_written, was_sensed, was_driven, accesses, after_assign, after_fetch, after_read, after_write, after_sense, after_drive}
 use Rattle.machine.specs.Refresh.{seen, all_seen, PsiByAccesses, refreshes, some_refreshes, Frozen, steady, Refreshed, writes_load, LoadsAloneRestart}
 use Rattle.machine.proofs.Laws.{or_left, or_right}
@@ -23,10 +23,10 @@ pub psi_by_accesses : {A : Type 0} → PsiByAccesses A
 unfolding perform accesses seen all_seen
 psi_by_accesses v (done a) m = refl
 psi_by_accesses v (look k) m = psi_by_accesses v (k (registers m.state)) m
-psi_by_accesses v (assign to-wp x k) m = psi_by_accesses v k (after_assign to-wp x m)
-psi_by_accesses v (assign to-pc x k) m = psi_by_accesses v k (after_assign to-pc x m)
-psi_by_accesses v (assign to-st x k) m = psi_by_accesses v k (after_assign to-st x m)
-psi_by_accesses v (assign to-flags x k) m = psi_by_accesses v k (after_assign to-flags x m)
+psi_by_accesses v (assign to_wp x k) m = psi_by_accesses v k (after_assign to_wp x m)
+psi_by_accesses v (assign to_pc x k) m = psi_by_accesses v k (after_assign to_pc x m)
+psi_by_accesses v (assign to_st x k) m = psi_by_accesses v k (after_assign to_st x m)
+psi_by_accesses v (assign to_flags x k) m = psi_by_accesses v k (after_assign to_flags x m)
 psi_by_accesses v (fetch k) m = psi_by_accesses v (k (loaded Word m.memory m.state.pc)) (after_fetch m)
 psi_by_accesses v (read w a k) m = psi_by_accesses v (k (loaded w m.memory a)) (after_read a m)
 psi_by_accesses v (write w a x k) m = psi_by_accesses v k (after_write w a x m)

@@ -6,7 +6,7 @@ use Rattle.machine.specs.declared.StepAnswer.{StepAnswer}
 use Rattle.machine.specs.declared.StepAnswer.TheVariants.{Nothing, Reset, Load, Level, Instruction, Idle, Unassigned}
 use Rattle.machine.specs.State.{Machine}
 use Rattle.machine.specs.Perform.{Performed, performed}
-use Rattle.machine.specs.Step.{Kind, was-reset, was-load, was-idle, was_level, ran, step}
+use Rattle.machine.specs.Step.{Kind, was_reset, was_load, was_idle, was_level, ran, step}
 
 -- What is told of an executed word: unassigned, also where X led to it, with the PC before the step; every other word is an instruction, BLWP,
 -- XOP and RTWP too.
@@ -18,9 +18,9 @@ told_word pc deed.Returned = Instruction
 
 -- What is told of a step: reset, LOAD or a level with its number, which the pins cause; idling; or what was executed.
 unfoldable pub told : ℕ → Kind → StepAnswer
-told pc was-reset = Reset
-told pc was-load = Load
-told pc was-idle = Idle
+told pc was_reset = Reset
+told pc was_load = Load
+told pc was_idle = Idle
 told pc (was_level k) = Level k
 told pc (ran d) = told_word pc d
 

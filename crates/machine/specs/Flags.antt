@@ -4,7 +4,7 @@ use Rattle.bits.specs.Bits.{bit}
 use Rattle.machine.specs.declared.Deed.{Deed}
 use Rattle.machine.specs.declared.Deed.TheVariants.{Ordinary, Unassigned, Switched, Returned}
 use Rattle.machine.specs.State.{Machine, idle, no_sample, well_formed}
-use Rattle.machine.specs.Step.{Kind, was-reset, was-load, was-idle, was_level, ran, step}
+use Rattle.machine.specs.Step.{Kind, was_reset, was_load, was_idle, was_level, ran, step}
 
 -- which flags are set after an executed word, also one that X executes: after BLWP and XOP only no-sample, after RTWP and an unassigned
 -- word none, after any other instruction at most idle, which IDLE sets
@@ -16,9 +16,9 @@ FlagsByWord Returned f = f ≡ 0
 
 -- which are set after a step that began with flags e: after reset, LOAD and an interrupt only no-sample; an idle step changes none
 unfoldable pub FlagsByStep : Kind → ℕ → ℕ → Type 0
-FlagsByStep was-reset e f = f ≡ 2 ^ no_sample
-FlagsByStep was-load e f = f ≡ 2 ^ no_sample
-FlagsByStep was-idle e f = (bit idle e ≡ true) × (f ≡ e)
+FlagsByStep was_reset e f = f ≡ 2 ^ no_sample
+FlagsByStep was_load e f = f ≡ 2 ^ no_sample
+FlagsByStep was_idle e f = (bit idle e ≡ true) × (f ≡ e)
 FlagsByStep (was_level k) e f = f ≡ 2 ^ no_sample
 FlagsByStep (ran d) e f = FlagsByWord d f
 

@@ -32,16 +32,16 @@ use Rattle.alu.specs.Sums.{sum, difference, negated, absolute}
 use Rattle.alu.specs.Shifts.{amount, shifted}
 use Rattle.alu.specs.Products.{product, divided}
 use Rattle.machine.specs.State.{Registers, idle, no_sample}
-use Rattle.machine.specs.Micro.{Micro, done, to-wp, to-pc, to-st, to-flags, ◌>>=◌, ◌>>◌, registers, set, fetched, load, store, sensed, driven}
+use Rattle.machine.specs.Micro.{Micro, done, to_wp, to_pc, to_st, to_flags, ◌>>=◌, ◌>>◌, registers, set, fetched, load, store, sensed, driven}
 use Rattle.machine.specs.Operands.{register_at, register, set_register, operand}
 
 -- every form: ST becomes what f makes of it
 unfoldable pub set_status : (ℕ → ℕ) → Micro (Unit {0})
-set_status f = registers >>= λ r. set to-st (f r.st)
+set_status f = registers >>= λ r. set to_st (f r.st)
 
 -- every form with a result: ST, and last the result at its address, are what f makes of ST
 unfoldable pub conclude : Width → ℕ → (ℕ → Outcome) → Micro (Unit {0})
-conclude w a f = registers >>= λ r. (set to-st (f r.st).st >> store w a (f r.st).value)
+conclude w a f = registers >>= λ r. (set to_st (f r.st).st >> store w a (f r.st).value)
 
 -- L>, A> and EQ compare the result with 0; byte forms set OP on odd parity; the result is stored last.
 unfoldable pub conclude_judged : Width → ℕ → ℕ → Micro (Unit {0})
@@ -157,7 +157,7 @@ access_bit op d = cru_base >>= λ b. bit_effect op (displaced b d)
 -- JMP, JLT, JLE, JEQ, JHE, JGT, JNE, JNC, JOC, JNO, JL, JH, JOP
 unfoldable pub jump : JumpOp → ℕ → Micro (Unit {0})
 jump op d = registers >>= λ r.
-    if jumps op r.st then set to-pc (target r.pc d) else done tt
+    if jumps op r.st then set to_pc (target r.pc d) else done tt
 
 -- a shift's count: R0 stands in for a coded 0 (`Shifts.amount`, which `shifted` takes, reads four bits of it)
 unfoldable pub shift_count : ℕ → Micro ℕ
@@ -178,7 +178,7 @@ store_absolute a x = if bit 15 x then store Word a (absolute x 0).value else don
 -- B, CLR, NEG, INV, INC, INCT, DEC, DECT, BL, SWPB, SETO, ABS: what each does at its operand's address. BL puts the PC after
 -- itself in R11.
 unfoldable pub single_effect : SingleOp → ℕ → Micro (Unit {0})
-single_effect B a = set to-pc a
+single_effect B a = set to_pc a
 single_effect Clr a = store Word a 0
 single_effect Neg a = load Word a >>= λ x. conclude Word a (negated x)
 single_effect Inv a = load Word a >>= λ x. conclude_judged Word a (inverted x)
@@ -186,7 +186,7 @@ single_effect Inc a = load Word a >>= λ x. conclude Word a (sum Word x 1)
 single_effect Inct a = load Word a >>= λ x. conclude Word a (sum Word x 2)
 single_effect Dec a = load Word a >>= λ x. conclude Word a (difference Word x 1)
 single_effect Dect a = load Word a >>= λ x. conclude Word a (difference Word x 2)
-single_effect Bl a = registers >>= λ r. (set to-pc a >> set_register 11 r.pc)
+single_effect Bl a = registers >>= λ r. (set to_pc a >> set_register 11 r.pc)
 single_effect Swpb a = load Word a >>= λ x. store Word a (swapped x)
 single_effect Seto a = store Word a 0xFFFF
 single_effect Abs a = load Word a >>= λ x. (set_status (λ st. (absolute x st).st) >> store_absolute a x)
@@ -230,7 +230,7 @@ load_mask = fetched >>= λ x. set_status (masked x)
 
 -- LWPI
 unfoldable pub load_workspace : Micro (Unit {0})
-load_workspace = fetched >>= set to-wp
+load_workspace = fetched >>= set to_wp
 
 -- STST
 unfoldable pub store_status : ℕ → Micro (Unit {0})
@@ -247,12 +247,12 @@ switch vector = do
   wp ← load Word vector
   pc ← load Word ((vector + 2) % 65536)
   r ← registers
-  set to-wp wp
+  set to_wp wp
   set_register 13 r.wp
   set_register 14 r.pc
   set_register 15 r.st
-  set to-pc pc
-  set to-flags (put no_sample true r.flags)
+  set to_pc pc
+  set to_flags (put no_sample true r.flags)
 
 -- BLWP: the vector is its operand.
 unfoldable pub switch_by_operand : Operand → Micro (Unit {0})
@@ -272,13 +272,13 @@ return = do
   wp ← register 13
   pc ← register 14
   st ← register 15
-  set to-wp wp
-  set to-pc pc
-  set to-st st
+  set to_wp wp
+  set to_pc pc
+  set to_st st
 
 -- the control forms: IDLE, RSET (the mask alone), RTWP; CKON, CKOF and LREX change nothing here
 unfoldable pub command : ControlOp → Micro (Unit {0})
-command Idle = registers >>= λ r. set to-flags (put idle true r.flags)
+command Idle = registers >>= λ r. set to_flags (put idle true r.flags)
 command Rset = set_status (masked 0)
 command Rtwp = return
 command Ckon = done tt

@@ -6,7 +6,7 @@ use Rattle.machine.specs.State.{Registers}
 
 -- the registers that a step loads
 pub data Target : Type 0 where
-  to-wp to-pc to-st to-flags : Target
+  to_wp to_pc to_st to_flags : Target
 
 pub data Micro (A : Type 0) : Type 0 where
   -- nothing more

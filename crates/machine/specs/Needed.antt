@@ -28,7 +28,7 @@ use Rattle.alu.specs.Shifts.{amount, shifted}
 use Rattle.alu.specs.Products.{product, divided}
 use Rattle.machine.specs.State.{Machine, idle as idle-flag, no_sample}
 use Rattle.machine.specs.declared.Deed.{Deed}
-use Rattle.machine.specs.Micro.{Micro, to-flags}
+use Rattle.machine.specs.Micro.{Micro, to_flags}
 use Rattle.machine.specs.Perform.{Performed, perform, after_assign, after_fetch, after_read, Access, was_fetched, was_read, was_written, was_sensed, was_driven, accesses}
 use Rattle.machine.specs.Operands.{register_at, operand}
 use Rattle.machine.specs.Groups as G
@@ -138,7 +138,7 @@ FormsAlone = (v : ℕ) (x : Operand → Micro Deed) (i : Instruction) (m : Machi
 
 -- the machine once no-sample is cleared, before an instruction is fetched
 abbrev pub awake : Machine → Machine
-awake m = after_assign to-flags (put no_sample false m.state.flags) m
+awake m = after_assign to_flags (put no_sample false m.state.flags) m
 
 -- A step without an entry fetches the word at the PC and executes it, unless the machine is idle.
 abbrev pub Proceeding : Type 0

@@ -8,7 +8,7 @@ use Rattle.psi.specs.declared.CruBit.{CruBit}
 use Rattle.psi.specs.Cru as Cru
 use Rattle.machine.specs.declared.State.{State}
 use Rattle.machine.specs.State.{Machine, registers, with_wp, with_pc, with_st, with_flags, with_psi}
-use Rattle.machine.specs.Micro.{Target, to-wp, to-pc, to-st, to-flags, Micro, done, look, assign, fetch, read, write, sense, drive}
+use Rattle.machine.specs.Micro.{Target, to_wp, to_pc, to_st, to_flags, Micro, done, look, assign, fetch, read, write, sense, drive}
 
 -- a microprogram's value, and the machine after it
 pub record Performed (A : Type 0) : Type 0 where
@@ -24,10 +24,10 @@ even x = x / 2 * 2 % 65536
 
 -- a register loaded; ST keeps all 16 bits, the flags are two
 abbrev pub assigned : Target → ℕ → State → State
-assigned to-wp x s = with_wp (even x) s
-assigned to-pc x s = with_pc (even x) s
-assigned to-st x s = with_st (x % 65536) s
-assigned to-flags x s = with_flags (x % 4) s
+assigned to_wp x s = with_wp (even x) s
+assigned to_pc x s = with_pc (even x) s
+assigned to_st x s = with_st (x % 65536) s
+assigned to_flags x s = with_flags (x % 4) s
 
 -- Document 02, Q-4: an access to memory whose byte address has weight 32 refreshes the PSI's read register.
 abbrev pub addressed : ℕ → State → State

@@ -8,7 +8,7 @@ use Rattle.machine.specs.declared.Deed.{Deed}
 use Rattle.machine.specs.declared.Signal.{Signal}
 use Rattle.machine.specs.declared.Signal.TheVariants.{Reset as reset, Load as load, Level as level, Nothing as none}
 use Rattle.machine.specs.State.{Registers, Machine, idle, no_sample, with_psi}
-use Rattle.machine.specs.Micro.{Micro, done, to-flags, ◌>>=◌, ◌>>◌, registers, set, fetched}
+use Rattle.machine.specs.Micro.{Micro, done, to_flags, ◌>>=◌, ◌>>◌, registers, set, fetched}
 use Rattle.machine.specs.Perform.{Performed, perform}
 use Rattle.machine.specs.Groups.{set_status, masked, switch}
 use Rattle.machine.specs.Execute.{execute, allowance}
@@ -37,11 +37,11 @@ enter vector f = do
   switch vector
   set_status f
   r ← registers
-  set to-flags (put idle false r.flags)
+  set to_flags (put idle false r.flags)
 
 -- what a step was; of an instruction also what the book of open entries goes by
 pub data Kind : Type 0 where
-  was-reset was-load was-idle : Kind
+  was_reset was_load was_idle : Kind
   was_level : ℕ → Kind
   ran : Deed → Kind
 
@@ -49,9 +49,9 @@ pub data Kind : Type 0 where
 unfoldable pub proceed : Micro Kind
 proceed = do
   r ← registers
-  (if bit idle r.flags then done was-idle
+  (if bit idle r.flags then done was_idle
       else (do
-        set to-flags (put no_sample false r.flags)
+        set to_flags (put no_sample false r.flags)
         w ← fetched
         d ← execute allowance w
         done (ran d)))
@@ -72,8 +72,8 @@ entry_status none st = st
 
 -- an entry, or none
 unfoldable pub boundary : Signal → Micro Kind
-boundary reset = enter (vector reset) (entry_status reset) >> done was-reset
-boundary load = enter (vector load) (entry_status load) >> done was-load
+boundary reset = enter (vector reset) (entry_status reset) >> done was_reset
+boundary load = enter (vector load) (entry_status load) >> done was_load
 boundary (level k) = enter (vector (level k)) (entry_status (level k)) >> done (was_level k)
 boundary none = proceed
 

@@ -6,7 +6,7 @@ ghost use Rattle.machine.specs.Operands as Operands;
 ghost use Rattle.memory.specs.Memory.{Installed};
 ghost use Rattle.machine.specs.State.{at};
 ghost use Rattle.machine.specs.Micro as Micro;
-ghost use Rattle.machine.specs.Micro.{to-wp, to-pc, to-st, to-flags};
+ghost use Rattle.machine.specs.Micro.{to_wp, to_pc, to_st, to_flags};
 ghost use Rattle.machine.specs.Perform.{perform, performed};
 
 use super::State;
@@ -94,7 +94,7 @@ pub fn set_register(bytes: &mut [u8], state: State, n: u16, value: u16) -> State
 
 // WP takes a value, less its lowest bit.
 pub fn set_wp(state: State, value: u16) -> State
-    ensures { (v : ℕ) (m : List ℕ) → perform v (Micro.set to-wp value) (at state m) ≡ performed tt (at result m) }
+    ensures { (v : ℕ) (m : List ℕ) → perform v (Micro.set to_wp value) (at state m) ≡ performed tt (at result m) }
 {
     let psi = state.psi;
     State {
@@ -109,7 +109,7 @@ pub fn set_wp(state: State, value: u16) -> State
 
 // PC takes a value, less its lowest bit.
 pub fn set_pc(state: State, value: u16) -> State
-    ensures { (v : ℕ) (m : List ℕ) → perform v (Micro.set to-pc value) (at state m) ≡ performed tt (at result m) }
+    ensures { (v : ℕ) (m : List ℕ) → perform v (Micro.set to_pc value) (at state m) ≡ performed tt (at result m) }
 {
     let psi = state.psi;
     State {
@@ -124,7 +124,7 @@ pub fn set_pc(state: State, value: u16) -> State
 
 // ST takes a value.
 pub fn set_st(state: State, value: u16) -> State
-    ensures { (v : ℕ) (m : List ℕ) → perform v (Micro.set to-st value) (at state m) ≡ performed tt (at result m) }
+    ensures { (v : ℕ) (m : List ℕ) → perform v (Micro.set to_st value) (at state m) ≡ performed tt (at result m) }
 {
     let psi = state.psi;
     State {
@@ -139,7 +139,7 @@ pub fn set_st(state: State, value: u16) -> State
 
 // The flags take a value of two bits.
 pub fn set_flags(state: State, value: u16) -> State
-    ensures { (v : ℕ) (m : List ℕ) → perform v (Micro.set to-flags value) (at state m) ≡ performed tt (at result m) }
+    ensures { (v : ℕ) (m : List ℕ) → perform v (Micro.set to_flags value) (at state m) ≡ performed tt (at result m) }
 {
     let psi = state.psi;
     State {

@@ -14,7 +14,7 @@ use Rattle.machine.specs.declared.Deed.TheVariants as deed
 use Rattle.machine.specs.declared.StepAnswer.{StepAnswer}
 use Rattle.machine.specs.declared.StepAnswer.TheVariants.{Nothing, Reset, Load, Level, Instruction, Idle, Unassigned}
 use Rattle.machine.specs.State.{Machine, well_formed}
-use Rattle.machine.specs.Step.{Kind, was-reset, was-load, was-idle, was_level, ran, step}
+use Rattle.machine.specs.Step.{Kind, was_reset, was_load, was_idle, was_level, ran, step}
 use Rattle.machine.specs.Answer.{told_word, told, as_told, answer, missed, latest}
 use Rattle.machine.specs.Run.{Ran, at_once, one_more, runs, run_refusal}
 
@@ -53,9 +53,9 @@ latest_assoc a b (Unassigned pc) = refl
 -- a step that was done always answers something, so it is the latest
 latest_told : (a : StepAnswer) (pc : ℕ) (k : Kind) → latest a (told pc k) ≡ told pc k
 unfolding latest told told_word
-latest_told a pc was-reset = refl
-latest_told a pc was-load = refl
-latest_told a pc was-idle = refl
+latest_told a pc was_reset = refl
+latest_told a pc was_load = refl
+latest_told a pc was_idle = refl
 latest_told a pc (was_level k) = refl
 latest_told a pc (ran deed.Ordinary) = refl
 latest_told a pc (ran deed.Unassigned) = refl
