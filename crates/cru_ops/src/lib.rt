@@ -1,4 +1,6 @@
 // CRU instructions: LDCR and STCR transfer up to 16 bits; SBO, SBZ and TB reach one bit.
+#![tactic(auto)]
+
 ghost use Rattle.std.specs.Prelude.{◌≡◌, ℕ, ◌≤◌, List};
 ghost use Rattle.memory.specs.Memory.{Installed};
 ghost use Rattle.machine.specs.State.{at};

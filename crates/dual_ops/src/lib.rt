@@ -1,4 +1,6 @@
 // Two general operands, byte or word: SZC, S, C, A, MOV, SOC.
+#![tactic(auto)]
+
 ghost use Rattle.std.specs.Prelude.{◌≡◌, ℕ};
 ghost use Rattle.memory.specs.Memory.{Installed};
 ghost use Rattle.isa.specs.declared.DualOp.TheVariants as Op;

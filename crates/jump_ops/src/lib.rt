@@ -1,4 +1,6 @@
 // The jumps: JMP, JLT, JLE, JEQ, JHE, JGT, JNE, JNC, JOC, JNO, JL, JH, JOP.
+#![tactic(auto)]
+
 ghost use Rattle.std.specs.Prelude.{◌≡◌, ℕ, List};
 ghost use Rattle.machine.specs.State.{at};
 ghost use Rattle.machine.specs.Groups as Groups;

@@ -1,4 +1,6 @@
 // A general source and a register: COC, CZC, XOR, MPY, DIV. A pair is the register and the word after it.
+#![tactic(auto)]
+
 ghost use Rattle.std.specs.Prelude.{◌≡◌, ℕ};
 ghost use Rattle.memory.specs.Memory.{Installed};
 ghost use Rattle.isa.specs.declared.RegisterOp.TheVariants as Op;

@@ -1,4 +1,6 @@
 // One general operand: B, CLR, NEG, INV, INC, INCT, DEC, DECT, BL, SWPB, SETO, ABS.
+#![tactic(auto)]
+
 ghost use Rattle.std.specs.Prelude.{◌≡◌, ℕ};
 ghost use Rattle.memory.specs.Memory.{Installed};
 ghost use Rattle.isa.specs.declared.SingleOp.TheVariants as Op;

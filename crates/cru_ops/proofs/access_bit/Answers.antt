@@ -1,0 +1,9 @@
+-- R12, then the access to the bit.
+use Rattle.machine.proofs.Bind.{perform_bind}
+use Rattle.machine.specs.Groups.{access_bit}
+use borrow.Author.Rules.{rules}
+use Rattle.cru_ops.proofs.access_bit.Goals as goal
+
+pub returns : goal.returns
+unfolding access_bit
+returns c = rw (perform_bind, c.cru_base-base.ensures _, ← c.displaced.ensures) (c.bit_effect.ensures _)

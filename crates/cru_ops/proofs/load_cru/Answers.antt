@@ -1,0 +1,28 @@
+-- The address, the value, R12, the status and the bits: the calls in the definition's order.
+use Rattle.machine.proofs.Bind.{perform_bind}
+use mathlib.Core.Path.{sym}
+use Rattle.machine.specs.Groups.{load_cru}
+use borrow.Author.Rules.{rules}
+use Rattle.cru_ops.proofs.load_cru.Goals as goal
+
+pub returns : goal.returns
+unfolding load_cru
+returns c v =
+    let base = c.before.before.before.before.before in
+    let source = base.before.before.before in
+    let from = source.before.before.before.before.before in
+    rw (
+      ← from.transfer_width-width.ensures,
+      perform_bind,
+      from.address-from.ensures v,
+      perform_bind,
+      source.load-source.ensures v,
+      perform_bind,
+      base.cru_base-base.ensures v,
+      perform_bind,
+      c.set_status-judged.ensures v _ _ (sym c.judged.ensures),
+    )
+    (c.drive_bits.ensures v _)
+
+pub shape_of-bytes : goal.shape_of-bytes
+shape_of-bytes c = c.address-from.auto.0

@@ -1,0 +1,40 @@
+-- The invariant: the bits found so far, with those that are yet to come above them, are the number that the whole gives.
+use native.Mathlib.Nat.{sub-zero, mul-zero, add-zero}
+use mathlib.Core.Path.{◌≡◌, sym, ◌∙◌}
+use Rattle.cru_ops.proofs.Transfers.{gathered, gathered_none, weighed_below, below_word, sense_turn}
+use Prim.Native.Nat.{ℕ, suc, ◌+◌, ◌-◌, ◌^◌, ◌<◌, ◌≤◌}
+use mathlib.Core.List.{List}
+use native.Mathlib.Omega.{arith}
+use Rattle.machine.specs.State.{at}
+use Rattle.machine.specs.Perform.{perform}
+use Rattle.machine.specs.Groups.{sense_bits}
+use Rattle.machine.proofs.Bind.{perform_done}
+use borrow.Author.Rules.{rules}
+use Rattle.cru_ops.proofs.sense_bits.Goals as goal
+
+pub loop-n-init : goal.loop-n-init
+loop-n-init c = (search rules, search rules, λ m. sym (rw sub-zero (gathered_none _)))
+
+pub overflow_add-value : goal.overflow_add-value
+overflow_add-value c =
+    let turn = c.loop-n in
+    record {
+      fits = below_word (turn.n + 1) _ (omega arith) (weighed_below _ _ c.sense-found.result.value (omega arith) turn.invariant.1);
+    }
+
+pub loop-n-preserved : goal.loop-n-preserved
+loop-n-preserved c =
+    let found = c.sense-found in
+    let turn = c.loop-n in
+    let count = c.args.count in
+    let e : count - turn.n ≡ suc (count - (turn.n + 1)) = omega arith in (
+      search rules,
+      weighed_below _ _ found.result.value (omega arith) turn.invariant.1,
+      λ m. (rw e at (turn.invariant.2 m)) ∙ rw c.plus-from.ensures (sense_turn _ _ _ _ _ _ _ _ m (omega arith) (found.ensures m)),
+    )
+
+pub returns : goal.returns
+unfolding sense_bits
+returns c m =
+    let e : c.args.count - c.loop-n.n ≡ 0 = omega arith in
+    (rw e at (c.loop-n.invariant.2 m)) ∙ rw (perform_done, mul-zero, add-zero)

@@ -1,0 +1,22 @@
+use native.Mathlib.Nat.{sub-zero, mul-zero, add-zero}
+use mathlib.Core.Path.{◌≡◌, sym, ◌∙◌}
+use Rattle.cru_ops.proofs.Transfers.{gathered, gathered_none, weighed_below, below_word, sense_turn}
+use Prim.Native.Nat.{ℕ, suc, ◌+◌, ◌-◌, ◌^◌, ◌<◌, ◌≤◌}
+use mathlib.Core.List.{List}
+use native.Mathlib.Omega.{arith}
+use Rattle.machine.specs.State.{at}
+use Rattle.machine.specs.Perform.{perform}
+use Rattle.machine.specs.Groups.{sense_bits}
+use Rattle.machine.proofs.Bind.{perform_done}
+use borrow.Author.Rules.{rules}
+use Rattle.cru_ops.proofs.sense_bits.Given as goal
+
+abbrev pub invariant-loop-n : goal.invariant-loop-n
+invariant-loop-n l =
+    (l.n ≤ l.count)
+    × (l.value < 2 ^ l.n)
+    × ((m : List ℕ)
+    → perform l.levels (sense_bits l.count l.initial.from) (at l.initial.s m) ≡ gathered l.value l.n (perform l.levels (sense_bits (l.count - l.n) l.from) (at l.s m)))
+
+abbrev pub decreases-loop-n : goal.decreases-loop-n
+decreases-loop-n l = l.count - l.n
