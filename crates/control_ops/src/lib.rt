@@ -1,4 +1,6 @@
 // LIMI, LWPI, STST and STWP, which load or store the machine's own registers, and the control forms, which have no operand.
+#![tactic(auto)]
+
 ghost use Rattle.std.specs.Prelude.{◌≡◌, ℕ};
 ghost use Rattle.memory.specs.Memory.{Installed};
 ghost use Rattle.machine.specs.State.{at};

@@ -1,4 +1,6 @@
 // Runs of bytes that differ between two memories, found from byte 0 on, part by part, and listed in lent places.
+#![tactic(auto)]
+
 ghost use Rattle.std.specs.Prelude.{◌≡◌, Bool, false, List, [], ◌∷◌, ◌++◌, ℕ, suc, ◌+◌, ◌<◌, ◌≤◌, length, replicate};
 ghost use Rattle.differing_runs.specs.Runs.{differences, runs_of, places};
 ghost use Rattle.differing_runs.specs.Scan.{none, put_run, Holds};

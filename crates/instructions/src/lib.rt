@@ -1,5 +1,7 @@
 // What each word's instruction does, and what it was. The words are told apart by their ranges, as `isa` does it; each range's function
 // takes the fields by `isa`'s parts. X is answered as with no allowance left, as unassigned: `cpu` executes it.
+#![tactic(auto)]
+
 ghost use Rattle.std.specs.Prelude.{◌≡◌, ℕ, eqb};
 ghost use Rattle.bits.specs.Bits.{if◌then◌else◌};
 ghost use Rattle.memory.specs.Memory.{Installed};

@@ -1,4 +1,6 @@
 // The assembler's notation as data: a mnemonic and at most two operands, in the order in which they are written.
+#![tactic(auto)]
+
 ghost use Rattle.std.specs.Prelude.{◌≡◌};
 ghost use Rattle.notation.specs.Forms as Forms;
 

@@ -1,4 +1,6 @@
 // When a call of run or power up is refused.
+#![tactic(auto)]
+
 ghost use Rattle.std.specs.Prelude.{◌≡◌};
 ghost use Rattle.machine.specs.Run as Run;
 

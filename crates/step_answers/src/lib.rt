@@ -1,4 +1,6 @@
 // What a step answers: of an executed word, and as numbers.
+#![tactic(auto)]
+
 ghost use Rattle.std.specs.Prelude.{◌≡◌};
 ghost use Rattle.machine.specs.Answer as Answer;
 

@@ -8,9 +8,9 @@ use Rattle.cru_ops.proofs.load_cru.Goals as goal
 pub returns : goal.returns
 unfolding load_cru
 returns c v =
-    let base = c.before.before.before.before.before in
-    let source = base.before.before.before in
-    let from = source.before.before.before.before.before in
+    let base = c in
+    let source = base in
+    let from = source in
     rw (
       ← from.transfer_width-width.ensures,
       perform_bind,
@@ -23,6 +23,3 @@ returns c v =
       c.set_status-judged.ensures v _ _ (sym c.judged.ensures),
     )
     (c.drive_bits.ensures v _)
-
-pub shape_of-bytes : goal.shape_of-bytes
-shape_of-bytes c = c.address-from.auto.0

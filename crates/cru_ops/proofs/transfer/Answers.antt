@@ -5,7 +5,7 @@ use borrow.Author.Rules.{rules}
 use Rattle.cru_ops.proofs.transfer.Goals as goal
 
 pub store_cru-requires : goal.store_cru-requires
-store_cru-requires c = (search rules, rw c.amount-n.ensures (amount_fits _))
+store_cru-requires c = record { installed = search rules; count_bound = rw c.amount-n.ensures (amount_fits _) }
 
 pub returns-in-Ldcr : goal.returns-in-Ldcr
 unfolding transfer

@@ -1,0 +1,32 @@
+-- Each arm is the definition's clause.
+use borrow.Author.Rules.{rules}
+use Rattle.machine.specs.Answer.{value}
+use Rattle.step_answers.proofs.value.Goals as goal
+
+pub returns-in-Nothing : goal.returns-in-Nothing
+unfolding value
+returns-in-Nothing c = rw c.in-Nothing.is
+
+pub returns-in-Reset : goal.returns-in-Reset
+unfolding value
+returns-in-Reset c = rw c.in-Reset.is
+
+pub returns-in-Load : goal.returns-in-Load
+unfolding value
+returns-in-Load c = rw c.in-Load.is
+
+pub returns-in-Level : goal.returns-in-Level
+unfolding value
+returns-in-Level c = rw c.in-Level.is
+
+pub returns-in-Instruction : goal.returns-in-Instruction
+unfolding value
+returns-in-Instruction c = rw c.in-Instruction.is
+
+pub returns-in-Idle : goal.returns-in-Idle
+unfolding value
+returns-in-Idle c = rw c.in-Idle.is
+
+pub returns-in-Unassigned : goal.returns-in-Unassigned
+unfolding value
+returns-in-Unassigned c = rw c.in-Unassigned.is
