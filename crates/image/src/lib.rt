@@ -136,7 +136,7 @@ fn fill_memory(image: &[u8], lent: &mut [u8])
         let to = image_blocks::carried(i + 1);
         let start = image_blocks::BLOCK_SIZE * (i + 1) + image_blocks::CONTENT;
         let end = start + (to - from);
-        bytes::copy(&image[start..end], &mut lent[from..to]);
+        lent[from..to].copy_from_slice(&image[start..end]);
         i += 1;
     }
 }
@@ -191,7 +191,7 @@ fn fill_image(state: State, lent: &[u8], image: &mut [u8])
         let block = image_blocks::block(state, lent, i);
         let from = image_blocks::BLOCK_SIZE * i;
         let to = from + image_blocks::BLOCK_SIZE;
-        bytes::copy(&block, &mut image[from..to]);
+        image[from..to].copy_from_slice(&block);
         i += 1;
     }
 }

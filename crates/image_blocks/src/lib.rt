@@ -1,4 +1,6 @@
 // Single blocks: made, judged, and taken apart.
+#![tactic(auto)]
+
 ghost use Rattle.std.specs.Prelude.{◌≡◌, ℕ, suc, ◌+◌, ◌-◌, ◌*◌, ◌%◌, ◌<◌, min, List, length, take, slice_index};
 ghost use Rattle.memory.specs.Memory.{Installed, size};
 ghost use Rattle.image_blocks.specs.Image as Image;
@@ -157,9 +159,10 @@ fn page(lent: &[u8], i: usize) -> [u8; BLOCK_SIZE]
     if i + 1 < LAST {
         let from = CONTENT_SIZE * i;
         let to = from + CONTENT_SIZE;
-        bytes::copy(&lent[from..to], &mut block[CONTENT..CHECK]);
+        block[CONTENT..CHECK].copy_from_slice(&lent[from..to]);
     } else {
-        bytes::copy(&lent[LAST_PAGE..memory::SIZE], &mut block[CONTENT..CHECK]);
+        let end = CONTENT + (memory::SIZE - LAST_PAGE);
+        block[CONTENT..end].copy_from_slice(&lent[LAST_PAGE..memory::SIZE]);
     }
     block
 }

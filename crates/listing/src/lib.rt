@@ -138,7 +138,7 @@ pub fn list(bytes: &[u8], address: u16, text: &mut [u8]) -> ListAnswer
     let line = listed.text;
     let letters = line.bytes;
     let length = line.length;
-    bytes::copy(&letters[..length], text);
+    text[..length].copy_from_slice(&letters[..length]);
     ListAnswer {
         number: 0,
         length,

@@ -1,4 +1,6 @@
 // How the mnemonics are spelled.
+#![tactic(auto)]
+
 ghost use Rattle.std.specs.Prelude.{◌≡◌};
 ghost use Rattle.text.specs.Texts.{ascii, appended, empty};
 ghost use Rattle.mnemonics.specs.Spelling as Spelling;

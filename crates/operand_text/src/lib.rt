@@ -1,5 +1,7 @@
 // Operands as text, kind by kind. The functions take any number of 16 bits for a register or a count, so up to five digits: the longest
 // operand is then `@>FFFF(R65535)`, of 14 bytes, and two of them behind a space and a comma have 30.
+#![tactic(auto)]
+
 ghost use Rattle.std.specs.Prelude.{◌≤◌, ◌≡◌, length};
 ghost use Rattle.text.specs.Texts.{Room, appended, decimal};
 ghost use Rattle.operand_text.specs.Kinds as Kinds;

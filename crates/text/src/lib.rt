@@ -1,4 +1,6 @@
 // A text put together piece by piece in an array.
+#![tactic(auto)]
+
 ghost use Rattle.std.specs.Prelude.{◌<◌, ◌≤◌, ◌≡◌, length};
 ghost use Rattle.text.specs.Texts as Texts;
 
@@ -53,7 +55,7 @@ pub fn append(text: Text, part: &[u8]) -> Text
     let mut bytes = text.bytes;
     let at = text.length;
     let to = at + part.len();
-    bytes::copy(part, &mut bytes[at..to]);
+    bytes[at..to].copy_from_slice(part);
     Text { bytes, length: to }
 }
 

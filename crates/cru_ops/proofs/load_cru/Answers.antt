@@ -8,17 +8,14 @@ use Rattle.cru_ops.proofs.load_cru.Goals as goal
 pub returns : goal.returns
 unfolding load_cru
 returns c v =
-    let base = c in
-    let source = base in
-    let from = source in
     rw (
-      ← from.transfer_width-width.ensures,
+      ← c.transfer_width-width.ensures,
       perform_bind,
-      from.address-from.ensures v,
+      c.address-from.ensures v,
       perform_bind,
-      source.load-source.ensures v,
+      c.load-source.ensures v,
       perform_bind,
-      base.cru_base-base.ensures v,
+      c.cru_base-base.ensures v,
       perform_bind,
       c.set_status-judged.ensures v _ _ (sym c.judged.ensures),
     )

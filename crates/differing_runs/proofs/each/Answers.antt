@@ -18,9 +18,8 @@ loop-i-init c = (omega arith, omega arith, λ seen l h. rw (append-nil seen) h)
 
 pub loop-i-preserved : goal.loop-i-preserved
 loop-i-preserved c =
-    let k = c in
-    let a = k.args in
-    let i : ℕ = k.loop-i.i in
+    let a = c.args in
+    let i : ℕ = c.loop-i.i in
     let so_far : List Bool = differences (take i a.first.now) (take i a.second.now) in
     let long : length so_far ≡ i =
     differences_length (take i a.first.now) (take i a.second.now) (length-take-le i a.first.now (omega arith) ∙ sym (length-take-le i a.second.now (omega arith)))
@@ -29,7 +28,7 @@ loop-i-preserved c =
       omega arith,
       λ seen l h.
           rw (one_more a.first.now a.second.now i (omega arith) (omega arith), ← append_assoc seen so_far _)
-          (c.noted-found.ensures.holds (seen ++ so_far) (length-append seen so_far ∙ omega arith) (k.loop-i.invariant.2 seen l h)),
+          (c.noted-found.ensures.holds (seen ++ so_far) (length-append seen so_far ∙ omega arith) (c.loop-i.invariant.2 seen l h)),
     )
 
 pub returns : goal.returns

@@ -20,13 +20,12 @@ loop-i-init c = (omega arith, refl)
 
 pub loop-i-preserved : goal.loop-i-preserved
 loop-i-preserved c =
-    let l = c in
-    let a = l.args in
-    let more = none_more a.first.now a.second.now l.loop-i.i (omega arith) (omega arith) in (
+    let a = c.args in
+    let more = none_more a.first.now a.second.now c.loop-i.i (omega arith) (omega arith) in (
       omega arith,
       elim c.if-first-i.branch [
         then-first-i w ↦ w.agree-is ∙ sym (more ∙ rw (ne_eqb _ _ w.if-first-i.true, and-false))
-        | else-first-i w ↦ w.agree-is ∙ l.loop-i.invariant.1 ∙ sym (more ∙ rw (eq-eqb _ _ w.if-first-i.false, and-true))
+        | else-first-i w ↦ w.agree-is ∙ c.loop-i.invariant.1 ∙ sym (more ∙ rw (eq-eqb _ _ w.if-first-i.false, and-true))
       ],
     )
 

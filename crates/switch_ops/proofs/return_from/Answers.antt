@@ -7,16 +7,13 @@ use Rattle.switch_ops.proofs.return_from.Goals as goal
 pub returns : goal.returns
 unfolding return
 returns c v =
-    let r15 = c in
-    let r14 = r15 in
-    let r13 = r14 in
     rw (
       perform_bind,
-      r13.register-r13.ensures v,
+      c.register-r13.ensures v,
       perform_bind,
-      r14.register-r14.ensures v,
+      c.register-r14.ensures v,
       perform_bind,
-      r15.register-r15.ensures v,
+      c.register-r15.ensures v,
       perform_bind,
       c.set_wp-s.ensures v _,
       perform_bind,

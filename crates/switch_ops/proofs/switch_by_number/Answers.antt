@@ -8,18 +8,14 @@ use Rattle.switch_ops.proofs.switch_by_number.Goals as goal
 pub returns : goal.returns
 unfolding switch_by_number
 returns c v =
-    let status = c in
-    let switched = status in
-    let vector = switched in
-    let operand = vector in
     rw (
       perform_bind,
-      operand.address-address.ensures v,
+      c.address-address.ensures v,
       perform_bind,
       ← switch_wraps v,
-      ← vector.xop_vector-vector.ensures,
-      switched.switch-s.ensures v,
+      ← c.xop_vector-vector.ensures,
+      c.switch-s.ensures v,
       perform_bind,
-      status.set_status-s.ensures v _ _ (sym status.put.ensures),
+      c.set_status-s.ensures v _ _ (sym c.put.ensures),
       c.set_register.ensures v,
     )

@@ -5,5 +5,4 @@ use Rattle.psi.proofs.Psi.ticked.Goals as goal
 
 pub returns : goal.returns
 returns c =
-    let start = c in
-    rw (ticks_at_once start.args.n start.args.self start.requires, c.followed.ensures, c.pending_after-pending.ensures, c.count_after-count.ensures)
+    rw (ticks_at_once c.args.n c.args.self c.requires, c.followed.ensures, c.pending_after-pending.ensures, c.count_after-count.ensures)

@@ -1,0 +1,17 @@
+-- Each arm has the letters of its name.
+use Rattle.text.specs.Texts.{ascii}
+use Rattle.mnemonics.specs.Spelling.{bit_name}
+use borrow.Author.Rules.{rules}
+use Rattle.mnemonics.proofs.bit_name.Goals as goal
+
+pub returns-in-Sbo : goal.returns-in-Sbo
+unfolding ascii bit_name
+returns-in-Sbo c = rw c.in-Sbo.is c.of.ensures
+
+pub returns-in-Sbz : goal.returns-in-Sbz
+unfolding ascii bit_name
+returns-in-Sbz c = rw c.in-Sbz.is c.of-in-Sbz.ensures
+
+pub returns-in-Tb : goal.returns-in-Tb
+unfolding ascii bit_name
+returns-in-Tb c = rw c.in-Tb.is c.of-in-Tb.ensures
