@@ -1,4 +1,6 @@
 // One step: the clock advances, the request code is judged, and an entry is taken or an instruction executed.
+#![tactic(auto)]
+
 ghost use Rattle.std.specs.Prelude.{◌≡◌, ℕ};
 ghost use Rattle.memory.specs.Memory.{Installed};
 ghost use Rattle.machine.specs.State.{at};

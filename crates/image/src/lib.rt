@@ -1,4 +1,6 @@
 // Images: 34 blocks that hold the state and the memory.
+#![tactic(auto)]
+
 ghost use Rattle.std.specs.Prelude.{◌≡◌, length};
 ghost use Rattle.memory.specs.Memory.{Installed};
 ghost use Rattle.image_blocks.specs.Image as Image;

@@ -57,17 +57,12 @@ joined_part n f (suc k) i (suc j) h l =
 pub grown :
     (all old l p q : List ℕ) (from to : ℕ) → length all ≡ length old → from ≤ to → to ≤ length old
     → l ≡ take from all ++ drop from old → p ≡ take (to - from) (drop from all)
-    → q ≡ take (length p) p ++ drop (length p) (take (to - from) (drop from l))
+    → q ≡ p
     → put_mid from (to - from) l q ≡ take to all ++ drop to old
-grown all old l p q from to same order fits so_far part copied =
+grown all old l p q from to same order fits so_far part whole =
     let front : length (take from all) ≡ from = length-take-le from all (omega arith) in
     let before : take from l ≡ take from all = ap (take from) so_far ∙ take_at (take from all) (drop from old) from front in
     let after : drop from l ≡ drop from old = ap (drop from) so_far ∙ drop_at (take from all) (drop from old) from front in
-    let long : length p ≡ to - from =
-    rw part (length-take-le (to - from) (drop from all) (rw (length-drop from all) (omega arith))) in
-    let none : drop (length p) (take (to - from) (drop from l)) ≡ [] =
-    drop_of_length-le (take (to - from) (drop from l)) {i = length p} (rw (long, length-take (to - from) (drop from l)) (omega arith)) in
-    let whole : q ≡ p = copied ∙ rw (none, take-length p) (append-nil p) in
     let rest : drop (to - from) (drop from l) ≡ drop to old =
     rw (after, drop-drop (to - from) from old, let e : from + (to - from) ≡ to = omega arith in e) in
     rw (before, whole, rest, ← append_assoc (take from all) p (drop to old), part, ← take-add from (to - from) all, let e : from + (to - from) ≡ to = omega arith in e)

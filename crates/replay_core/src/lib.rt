@@ -1,2 +1,4 @@
 // Runs of steps, and power up.
+#![tactic(auto)]
+
 pub mod run;

@@ -1,4 +1,6 @@
 // What a request code stands for at a step's boundary, what of it is taken, and the vector and ST of an entry.
+#![tactic(auto)]
+
 ghost use Rattle.std.specs.Prelude.{◌≡◌, ◌-◌};
 ghost use Rattle.machine.specs.State.{registers};
 ghost use Rattle.machine.specs.Step as Step;

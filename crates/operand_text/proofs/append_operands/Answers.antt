@@ -9,45 +9,51 @@ use Rattle.operand_text.proofs.append_operands.Goals as goal
 
 pub append_written-requires : goal.append_written-requires
 append_written-requires c =
-    next_room c.args.text _ _ 14 30 c.append.ensures c.requires (omega arith)
+    let s = c in
+    next_room s.args.text _ _ 14 30 c.append.ensures s.requires (omega arith)
 
 pub append_written-requires-in-Two : goal.append_written-requires-in-Two
 append_written-requires-in-Two c =
-    next_room c.args.text _ _ 14 30 c.append-in-Two.ensures c.requires (omega arith)
+    let s = c in
+    next_room s.args.text _ _ 14 30 c.append-in-Two.ensures s.requires (omega arith)
 
 pub append-requires-in-Two-2 : goal.append-requires-in-Two-2
 append-requires-in-Two-2 c =
+    let s = c in
     let first = c.append_written-in-Two.ensures in
-    next_room _ _ _ 1 29 first.0
-    (next_room c.args.text _ _ 29 30 c.append-in-Two.ensures c.requires (omega arith))
-    (omega (arith, first.1))
+    next_room _ _ _ 1 29 first.value
+    (next_room s.args.text _ _ 29 30 c.append-in-Two.ensures s.requires (omega arith))
+    (omega (arith, first.operand_len_bound))
 
 pub append_written-requires-in-Two-2 : goal.append_written-requires-in-Two-2
 append_written-requires-in-Two-2 c =
+    let s = c in
     let first = c.append_written-in-Two.ensures in
     next_room _ _ _ 14 15 c.append-in-Two-2.ensures
-    (next_room _ _ _ 15 29 first.0
-    (next_room c.args.text _ _ 29 30 c.append-in-Two.ensures c.requires (omega arith))
-    (omega (arith, first.1)))
+    (next_room _ _ _ 15 29 first.value
+    (next_room s.args.text _ _ 29 30 c.append-in-Two.ensures s.requires (omega arith))
+    (omega (arith, first.operand_len_bound)))
     (omega arith)
 
 pub returns-in-None : goal.returns-in-None
 unfolding operands
-returns-in-None c = rw c.in-None.is (nothing_appended c.args.text, omega arith)
+returns-in-None c = rw c.in-None.is record { value = nothing_appended c.args.text; operands_len_bound = omega arith }
 
 pub returns-in-One : goal.returns-in-One
 unfolding operands ascii
 returns-in-One c =
+    let s = c in
     let only = c.append_written.ensures in
     rw c.in-One.is
-    (joined c.args.text _ _ _ _ 30 c.append.ensures only.0 c.requires (omega (arith, only.1)), omega (arith, only.1))
+    record { value = joined s.args.text _ _ _ _ 30 c.append.ensures only.value s.requires (omega (arith, only.operand_len_bound)); operands_len_bound = omega (arith, only.operand_len_bound) }
 
 pub returns-in-Two : goal.returns-in-Two
 unfolding operands ascii
 returns-in-Two c =
+    let s = c in
     let first = c.append_written-in-Two.ensures in
     let second = c.append_written-in-Two-2.ensures in
-    let two = joined c.args.text _ _ _ _ 30 c.append-in-Two.ensures first.0 c.requires (omega (arith, first.1)) in
-    let three = joined c.args.text _ _ _ _ 30 two c.append-in-Two-2.ensures c.requires (rw (length-append) (omega (arith, first.1))) in
+    let two = joined s.args.text _ _ _ _ 30 c.append-in-Two.ensures first.value s.requires (omega (arith, first.operand_len_bound)) in
+    let three = joined s.args.text _ _ _ _ 30 two c.append-in-Two-2.ensures s.requires (rw (length-append) (omega (arith, first.operand_len_bound))) in
     rw c.in-Two.is
-    (joined c.args.text _ _ _ _ 30 three second.0 c.requires (rw (length-append, length-append) (omega (arith, first.1, second.1))), rw (length-append, length-append) (omega (arith, first.1, second.1)))
+    record { value = joined s.args.text _ _ _ _ 30 three second.value s.requires (rw (length-append, length-append) (omega (arith, first.operand_len_bound, second.operand_len_bound))); operands_len_bound = rw (length-append, length-append) (omega (arith, first.operand_len_bound, second.operand_len_bound)) }

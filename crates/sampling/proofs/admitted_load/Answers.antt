@@ -1,0 +1,12 @@
+-- The flag's bit decides, as in the definition.
+use Rattle.machine.specs.Step as Step
+use borrow.Author.Rules.{rules}
+use Rattle.sampling.proofs.admitted_load.Goals as goal
+
+pub returns-then-bit : goal.returns-then-bit
+unfolding Step.admitted
+returns-then-bit c = rw (← c.bit.ensures, c.if-bit.true)
+
+pub returns : goal.returns
+unfolding Step.admitted
+returns c = rw (← c.bit.ensures, c.if-bit.false)
