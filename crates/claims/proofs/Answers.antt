@@ -125,7 +125,7 @@ idle_steps word m none i = rw (step_is, none, perform_bind, perform_registers, i
 pub executing_steps : ExecutingSteps
 unfolding at_step boundary proceed answer as_told told Tells fetched set perform
 executing_steps word m none i =
-    rw (step_is, none, perform_bind, perform_registers, i, perform_bind, perform_bind)
+    rw (step_is, none, perform_bind, perform_registers, i, perform_bind (parted word).levels, perform_bind (parted word).levels)
     (executes m.state.pc (parted word).levels allowance (loaded Word m.memory m.state.pc) (executing word m))
 
 pub idle_steps_access : IdleStepsAccess

@@ -1,4 +1,6 @@
 // What differs between two images: the fields of block 0, and the runs of differing bytes of their memories.
+#![tactic(auto)]
+
 ghost use Rattle.std.specs.Prelude.{◌≡◌, ◌<◌, [], length};
 ghost use Rattle.differing_runs.specs.Runs as Runs;
 ghost use Rattle.image_blocks.specs.Image as Image;

@@ -1,1 +1,2 @@
 // No code: theorems about the definitions of images, in specs/ and proofs/.
+#![tactic(auto)]

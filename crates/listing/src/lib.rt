@@ -1,4 +1,6 @@
 // The listing: one line of text for the instruction at an address.
+#![tactic(auto)]
+
 ghost use Rattle.std.specs.Prelude.{◌≡◌, ◌≤◌, [], ◌∷◌, length};
 ghost use Rattle.memory.specs.Memory.{Installed};
 ghost use Rattle.text.specs.Texts.{Room, appended, empty, hex};

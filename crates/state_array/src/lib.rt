@@ -1,4 +1,6 @@
 // A state as an array of numbers of 32 bits, for the exported calls.
+#![tactic(auto)]
+
 ghost use Rattle.std.specs.Prelude.{◌≡◌, ◌<◌};
 ghost use Rattle.image_blocks.specs.Image as Image;
 ghost use Rattle.state_array.specs.Arrays as Arrays;

@@ -12,5 +12,4 @@ returns-then-bit c = rw (perform_bind, perform_registers, ← c.bit.ensures, c.i
 pub returns : goal.returns
 unfolding Step.proceed Answer.as_told Answer.told
 returns c =
-    let tested = c in
-    rw (perform_bind, perform_registers, ← tested.bit.ensures, tested.if-bit.false, perform_bind, ← c.put.ensures, c.set_flags-sampled.ensures _ _, perform_bind, c.fetch-word.ensures _, perform_bind, c.perform-executed.ensures, perform_done, c.told_word.ensures)
+    rw (perform_bind, perform_registers, ← c.bit.ensures, c.if-bit.false, perform_bind, ← c.put.ensures, c.set_flags-sampled.ensures _ _, perform_bind, c.fetch-word.ensures _, perform_bind, c.perform-executed.ensures, perform_done, c.told_word.ensures)

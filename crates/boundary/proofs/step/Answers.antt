@@ -8,6 +8,5 @@ pub returns : goal.returns
 unfolding Step.step Step.stepping
 returns c =
     let clocked = c.with_psi-clocked.ensures in
-    let taken = c in
-    rw (perform_bind, perform_registers, ← taken.split-record.ensures, ← taken.advance-psi.ensures, ← taken.code-code.ensures, ← taken.signal.ensures, ← rw clocked at taken.admitted-taken.ensures)
+    rw (perform_bind, perform_registers, ← c.split-record.ensures, ← c.advance-psi.ensures, ← c.code-code.ensures, ← c.signal.ensures, ← rw clocked at c.admitted-taken.ensures)
     (rw clocked at c.boundary.ensures)

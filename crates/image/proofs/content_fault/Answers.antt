@@ -12,47 +12,39 @@ returns-then-field-ne-FORMAT c =
 pub returns-then-not-known_edition : goal.returns-then-not-known_edition
 unfolding content_fault
 returns-then-not-known_edition c =
-    let k = c in
-    let f = k in
     simp (
-      ← f.field.ensures,
-      eq-eqb _ _ f.if-field-ne-FORMAT.false,
-      ← k.field-2.ensures,
-      ← k.known_edition.ensures,
+      ← c.field.ensures,
+      eq-eqb _ _ c.if-field-ne-FORMAT.false,
+      ← c.field-2.ensures,
+      ← c.known_edition.ensures,
       c.if-not-known_edition.true,
     )
 
 pub returns-then-not-well_formed : goal.returns-then-not-well_formed
 unfolding content_fault
 returns-then-not-well_formed c =
-    let w = c in
-    let k = w in
-    let f = k in
     simp (
-      ← f.field.ensures,
-      eq-eqb _ _ f.if-field-ne-FORMAT.false,
-      ← k.field-2.ensures,
-      ← k.known_edition.ensures,
-      w.if-not-known_edition.false,
-      ← w.state_of-state.ensures,
-      ← w.well_formed-2.ensures,
+      ← c.field.ensures,
+      eq-eqb _ _ c.if-field-ne-FORMAT.false,
+      ← c.field-2.ensures,
+      ← c.known_edition.ensures,
+      c.if-not-known_edition.false,
+      ← c.state_of-state.ensures,
+      ← c.well_formed-2.ensures,
       c.if-not-well_formed.true,
     )
 
 pub returns-then-not-filler_clear : goal.returns-then-not-filler_clear
 unfolding content_fault
 returns-then-not-filler_clear c =
-    let w = c in
-    let k = w in
-    let f = k in
     simp (
-      ← f.field.ensures,
-      eq-eqb _ _ f.if-field-ne-FORMAT.false,
-      ← k.field-2.ensures,
-      ← k.known_edition.ensures,
-      w.if-not-known_edition.false,
-      ← w.state_of-state.ensures,
-      ← w.well_formed-2.ensures,
+      ← c.field.ensures,
+      eq-eqb _ _ c.if-field-ne-FORMAT.false,
+      ← c.field-2.ensures,
+      ← c.known_edition.ensures,
+      c.if-not-known_edition.false,
+      ← c.state_of-state.ensures,
+      ← c.well_formed-2.ensures,
       c.if-not-well_formed.false,
       ← c.filler_clear.ensures,
       c.if-not-filler_clear.true,
@@ -61,17 +53,14 @@ returns-then-not-filler_clear c =
 pub returns : goal.returns
 unfolding content_fault
 returns c =
-    let w = c in
-    let k = w in
-    let f = k in
     simp (
-      ← f.field.ensures,
-      eq-eqb _ _ f.if-field-ne-FORMAT.false,
-      ← k.field-2.ensures,
-      ← k.known_edition.ensures,
-      w.if-not-known_edition.false,
-      ← w.state_of-state.ensures,
-      ← w.well_formed-2.ensures,
+      ← c.field.ensures,
+      eq-eqb _ _ c.if-field-ne-FORMAT.false,
+      ← c.field-2.ensures,
+      ← c.known_edition.ensures,
+      c.if-not-known_edition.false,
+      ← c.state_of-state.ensures,
+      ← c.well_formed-2.ensures,
       c.if-not-well_formed.false,
       ← c.filler_clear.ensures,
       c.if-not-filler_clear.false,

@@ -22,20 +22,17 @@ parts img from h e =
 
 pub returns-then-not-zeros : goal.returns-then-not-zeros
 returns-then-not-zeros c =
-    let r = c in
-    let img = r.args.image.now in
-    let from : ℕ = r.rest-rest.result in
+    let img = c.args.image.now in
+    let from : ℕ = c.rest-rest.result in
     let front : c.zeros.result ≡ zeros (take (510 - from) (drop from img)) = c.zeros.ensures in
-    rw (parts img from (omega arith) r.rest-rest.ensures, ← front, c.if-not-zeros.true)
+    rw (parts img from (omega arith) c.rest-rest.ensures, ← front, c.if-not-zeros.true)
 
 pub returns : goal.returns
 returns c =
-    let z = c in
-    let r = z in
-    let img = r.args.image.now in
-    let from : ℕ = r.rest-rest.result in
-    let front : z.zeros.result ≡ zeros (take (510 - from) (drop from img)) = z.zeros.ensures in
-    rw (parts img from (omega arith) r.rest-rest.ensures, ← front, c.if-not-zeros.false) c.zeros-2.ensures
+    let img = c.args.image.now in
+    let from : ℕ = c.rest-rest.result in
+    let front : c.zeros.result ≡ zeros (take (510 - from) (drop from img)) = c.zeros.ensures in
+    rw (parts img from (omega arith) c.rest-rest.ensures, ← front, c.if-not-zeros.false) c.zeros-2.ensures
 
 -- the fields of either edition end before the check word
 pub slice_bounds-zeros-count : goal.slice_bounds-zeros-count

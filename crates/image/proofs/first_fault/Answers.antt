@@ -27,9 +27,8 @@ overflow_cast-result c = omega arith
 
 pub returns-then-number-ne0 : goal.returns-then-number-ne0
 returns-then-number-ne0 c =
-    let l = c in
-    let img = l.args.image.now in
-    sym (l.loop-i.invariant.1 ∙ next img l.loop-i.i (omega arith)
+    let img = c.args.image.now in
+    sym (c.loop-i.invariant.1 ∙ next img c.loop-i.i (omega arith)
     ∙ rw (← c.block_fault-number.ensures, ne_eqb c.block_fault-number.result 0 c.if-number-ne0.true))
 
 pub overflow_add-i : goal.overflow_add-i
@@ -40,10 +39,9 @@ loop-i-smaller c = omega arith
 
 pub loop-i-preserved : goal.loop-i-preserved
 loop-i-preserved c =
-    let l = c in
-    let img = l.args.image.now in (
+    let img = c.args.image.now in (
       omega arith,
-      l.loop-i.invariant.1 ∙ next img l.loop-i.i (omega arith)
+      c.loop-i.invariant.1 ∙ next img c.loop-i.i (omega arith)
           ∙ rw (← c.block_fault-number.ensures, eq-eqb c.block_fault-number.result 0 c.if-number-ne0.false),
     )
 

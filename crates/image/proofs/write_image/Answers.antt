@@ -12,12 +12,10 @@ returns-then-refusal-ne0 c = record { value = rw c.write_fault-refusal.ensures; 
 
 pub fill_image-requires : goal.fill_image-requires
 fill_image-requires c =
-    let f = c in
-    let a = f.args in
-    let known = writable a.state a.bytes.now a.image.now (sym f.write_fault-refusal.ensures ∙ c.if-refusal-ne0.false) in
+    let a = c.args in
+    let known = writable a.state a.bytes.now a.image.now (sym c.write_fault-refusal.ensures ∙ c.if-refusal-ne0.false) in
     record { installed = known.memory_sized; image_len = known.image_sized }
 
 pub returns : goal.returns
 unfolding write
-returns c =
-    let t = c in record { value = rw (← t.write_fault-refusal.ensures, t.if-refusal-ne0.false); image_after = rw (← t.write_fault-refusal.ensures, eq-eqb _ _ t.if-refusal-ne0.false) c.fill_image.ensures }
+returns c = record { value = rw (← c.write_fault-refusal.ensures, c.if-refusal-ne0.false); image_after = rw (← c.write_fault-refusal.ensures, eq-eqb _ _ c.if-refusal-ne0.false) c.fill_image.ensures }

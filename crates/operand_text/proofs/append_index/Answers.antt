@@ -12,24 +12,20 @@ use Rattle.operand_text.proofs.append_index.Goals as goal
 pub returns-then-register-eq0 : goal.returns-then-register-eq0
 unfolding index
 returns-then-register-eq0 c =
-    let s = c in
-    record { value = rw (eq-eqb _ _ c.if-register-eq0.true) (nothing_appended s.args.text); register_len_bound = index_length 4 s.args.register (omega (arith, s.ranges.register.fits)) }
+    record { value = rw (eq-eqb _ _ c.if-register-eq0.true) (nothing_appended c.args.text); register_len_bound = index_length 4 c.args.register (omega (arith, c.ranges.register.fits)) }
 
 pub append_register-requires : goal.append_register-requires
 append_register-requires c =
-    let s = c in
-    next_room s.args.text _ _ 6 8 c.append.ensures s.requires (omega arith)
+    next_room c.args.text _ _ 6 8 c.append.ensures c.requires (omega arith)
 
 pub append-requires-2 : goal.append-requires-2
 append-requires-2 c =
-    let s = c in
     let named = c.append_register.ensures in
-    next_room _ _ _ 1 7 named.value (next_room s.args.text _ _ 7 8 c.append.ensures s.requires (omega arith)) (omega (arith, named.register_len_bound))
+    next_room _ _ _ 1 7 named.value (next_room c.args.text _ _ 7 8 c.append.ensures c.requires (omega arith)) (omega (arith, named.register_len_bound))
 
 pub returns : goal.returns
 unfolding index ascii
 returns c =
-    let s = c in
     let named = c.append_register.ensures in
     let bracket = c.append.ensures in
-    let two = joined s.args.text _ _ _ _ 8 bracket named.value s.requires (omega (arith, named.register_len_bound)) in record { value = rw (ne_eqb _ _ c.if-register-eq0.false) (joined s.args.text _ _ _ _ 8 two c.append-2.ensures s.requires (rw (length-append) (omega (arith, named.register_len_bound)))); register_len_bound = index_length 4 s.args.register (omega (arith, s.ranges.register.fits)) }
+    let two = joined c.args.text _ _ _ _ 8 bracket named.value c.requires (omega (arith, named.register_len_bound)) in record { value = rw (ne_eqb _ _ c.if-register-eq0.false) (joined c.args.text _ _ _ _ 8 two c.append-2.ensures c.requires (rw (length-append) (omega (arith, named.register_len_bound)))); register_len_bound = index_length 4 c.args.register (omega (arith, c.ranges.register.fits)) }

@@ -9,29 +9,25 @@ use Rattle.operand_text.proofs.append_operands.Goals as goal
 
 pub append_written-requires : goal.append_written-requires
 append_written-requires c =
-    let s = c in
-    next_room s.args.text _ _ 14 30 c.append.ensures s.requires (omega arith)
+    next_room c.args.text _ _ 14 30 c.append.ensures c.requires (omega arith)
 
 pub append_written-requires-in-Two : goal.append_written-requires-in-Two
 append_written-requires-in-Two c =
-    let s = c in
-    next_room s.args.text _ _ 14 30 c.append-in-Two.ensures s.requires (omega arith)
+    next_room c.args.text _ _ 14 30 c.append-in-Two.ensures c.requires (omega arith)
 
 pub append-requires-in-Two-2 : goal.append-requires-in-Two-2
 append-requires-in-Two-2 c =
-    let s = c in
     let first = c.append_written-in-Two.ensures in
     next_room _ _ _ 1 29 first.value
-    (next_room s.args.text _ _ 29 30 c.append-in-Two.ensures s.requires (omega arith))
+    (next_room c.args.text _ _ 29 30 c.append-in-Two.ensures c.requires (omega arith))
     (omega (arith, first.operand_len_bound))
 
 pub append_written-requires-in-Two-2 : goal.append_written-requires-in-Two-2
 append_written-requires-in-Two-2 c =
-    let s = c in
     let first = c.append_written-in-Two.ensures in
     next_room _ _ _ 14 15 c.append-in-Two-2.ensures
     (next_room _ _ _ 15 29 first.value
-    (next_room s.args.text _ _ 29 30 c.append-in-Two.ensures s.requires (omega arith))
+    (next_room c.args.text _ _ 29 30 c.append-in-Two.ensures c.requires (omega arith))
     (omega (arith, first.operand_len_bound)))
     (omega arith)
 
@@ -42,18 +38,16 @@ returns-in-None c = rw c.in-None.is record { value = nothing_appended c.args.tex
 pub returns-in-One : goal.returns-in-One
 unfolding operands ascii
 returns-in-One c =
-    let s = c in
     let only = c.append_written.ensures in
     rw c.in-One.is
-    record { value = joined s.args.text _ _ _ _ 30 c.append.ensures only.value s.requires (omega (arith, only.operand_len_bound)); operands_len_bound = omega (arith, only.operand_len_bound) }
+    record { value = joined c.args.text _ _ _ _ 30 c.append.ensures only.value c.requires (omega (arith, only.operand_len_bound)); operands_len_bound = omega (arith, only.operand_len_bound) }
 
 pub returns-in-Two : goal.returns-in-Two
 unfolding operands ascii
 returns-in-Two c =
-    let s = c in
     let first = c.append_written-in-Two.ensures in
     let second = c.append_written-in-Two-2.ensures in
-    let two = joined s.args.text _ _ _ _ 30 c.append-in-Two.ensures first.value s.requires (omega (arith, first.operand_len_bound)) in
-    let three = joined s.args.text _ _ _ _ 30 two c.append-in-Two-2.ensures s.requires (rw (length-append) (omega (arith, first.operand_len_bound))) in
+    let two = joined c.args.text _ _ _ _ 30 c.append-in-Two.ensures first.value c.requires (omega (arith, first.operand_len_bound)) in
+    let three = joined c.args.text _ _ _ _ 30 two c.append-in-Two-2.ensures c.requires (rw (length-append) (omega (arith, first.operand_len_bound))) in
     rw c.in-Two.is
-    record { value = joined s.args.text _ _ _ _ 30 three second.value s.requires (rw (length-append, length-append) (omega (arith, first.operand_len_bound, second.operand_len_bound))); operands_len_bound = rw (length-append, length-append) (omega (arith, first.operand_len_bound, second.operand_len_bound)) }
+    record { value = joined c.args.text _ _ _ _ 30 three second.value c.requires (rw (length-append, length-append) (omega (arith, first.operand_len_bound, second.operand_len_bound))); operands_len_bound = rw (length-append, length-append) (omega (arith, first.operand_len_bound, second.operand_len_bound)) }
