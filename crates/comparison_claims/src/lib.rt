@@ -1,1 +1,2 @@
 // No code: theorems about comparing images, in specs/ and proofs/.
+#![tactic(auto)]

@@ -1,1 +1,2 @@
 // No code: theorems about the exported calls, in specs/ and proofs/.
+#![tactic(auto)]

@@ -1,3 +1,5 @@
 // What the program's files and its line mean.
+#![tactic(auto)]
+
 pub mod line;
 pub mod pins;

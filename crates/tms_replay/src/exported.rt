@@ -1,5 +1,5 @@
-// The calls for C, Fortran and Rust: a slice is a pointer and a length, an array or a number behind a reference a pointer.
-// `include/tms_replay.h` declares them.
+// The calls for C, Fortran and Rust, on arrays of words; `tms_replay_c` exports them: there a slice is a pointer and a length, an array or
+// a number behind a reference a pointer. `include/tms_replay.h` declares them.
 ghost use Rattle.std.specs.Prelude.{◌≡◌};
 ghost use Rattle.tms_replay.specs.Exported as Exported;
 
@@ -16,8 +16,7 @@ pub const LINE_ANSWER: usize = 2;
 pub const COMPARE_ANSWER: usize = 4;
 
 // Power up on the lent memory.
-#[unsafe(no_mangle)]
-pub extern "C" fn tms_power_up(memory: &mut [u8], state: &mut [u32; STATE_WORDS]) -> u16
+pub fn tms_power_up(memory: &mut [u8], state: &mut [u32; STATE_WORDS]) -> u16
     ensures value { result ≡ (Exported.power_up memory.old).number }
     ensures memory_after { memory.new ≡ (Exported.power_up memory.old).memory }
     ensures state_after { state.new ≡ (Exported.power_up memory.old).state }
@@ -28,8 +27,7 @@ pub extern "C" fn tms_power_up(memory: &mut [u8], state: &mut [u32; STATE_WORDS]
 }
 
 // Runs at most `steps` steps, one record each, up to the stop address.
-#[unsafe(no_mangle)]
-pub extern "C" fn tms_run(
+pub fn tms_run(
     memory: &mut [u8],
     state: &mut [u32; STATE_WORDS],
     records: &[u32],
@@ -56,8 +54,7 @@ pub extern "C" fn tms_run(
 }
 
 // Reads an image into the lent memory and the state's words.
-#[unsafe(no_mangle)]
-pub extern "C" fn tms_read_image(
+pub fn tms_read_image(
     image: &[u8],
     memory: &mut [u8],
     state: &mut [u32; STATE_WORDS],
@@ -75,12 +72,7 @@ pub extern "C" fn tms_read_image(
 }
 
 // Writes an image of the state's words and the lent memory.
-#[unsafe(no_mangle)]
-pub extern "C" fn tms_write_image(
-    state: &[u32; STATE_WORDS],
-    memory: &[u8],
-    image: &mut [u8],
-) -> u16
+pub fn tms_write_image(state: &[u32; STATE_WORDS], memory: &[u8], image: &mut [u8]) -> u16
     ensures value { result ≡ (Exported.write state.now memory.now image.old).number }
     ensures image_after { image.new ≡ (Exported.write state.now memory.now image.old).image }
 {
@@ -89,8 +81,7 @@ pub extern "C" fn tms_write_image(
 }
 
 // Writes the line of the instruction at an address into the lent buffer.
-#[unsafe(no_mangle)]
-pub extern "C" fn tms_list(
+pub fn tms_list(
     memory: &[u8],
     address: u16,
     text: &mut [u8],
@@ -107,8 +98,7 @@ pub extern "C" fn tms_list(
 }
 
 // Compares two images; `runs` gets start and length of the first 256 runs of differing bytes.
-#[unsafe(no_mangle)]
-pub extern "C" fn tms_compare_images(
+pub fn tms_compare_images(
     first: &[u8],
     second: &[u8],
     answer: &mut [u32; COMPARE_ANSWER],

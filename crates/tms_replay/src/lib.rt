@@ -1,5 +1,7 @@
 // The public calls: power up, run, read an image, write an image, list an instruction, compare two images. Module `exported` has them for C,
 // Fortran and Rust.
+#![tactic(auto)]
+
 ghost use Rattle.std.specs.Prelude.{◌≡◌};
 ghost use Rattle.machine.specs.Run as Run;
 ghost use Rattle.image.specs.Calls as Calls;

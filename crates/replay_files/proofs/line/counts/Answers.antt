@@ -9,51 +9,37 @@ use Rattle.text.proofs.Laws.{appended_twice, empty_room}
 use Rattle.replay_files.specs.Line.{counts}
 use Rattle.replay_files.proofs.Lengths.{count_room, counts_length}
 use borrow.Author.Rules.{rules}
-use Rattle.replay_files.proofs.line.counts.Statement.{statement}
-use Rattle.replay_files.proofs.line.counts.Tie as tie
+use Rattle.replay_files.proofs.line.counts.Goals as goal
 
-number-requires : tie.Need-append-count-requires
-number-requires c κs = rw c.before.empty.ensures (empty_room 27 (omega arith))
+pub append_count-numbered-requires : goal.append_count-numbered-requires
+append_count-numbered-requires c = rw c.empty.ensures (empty_room 27 (omega arith))
 
-steps-requires : tie.Need-append-count-requires-2
+pub append_count-stepped-requires : goal.append_count-stepped-requires
 unfolding ascii
-steps-requires c κs =
-    rw (c.before.append-count.ensures, c.before.before.before.empty.ensures)
+append_count-stepped-requires c =
+    rw (c.append_count-numbered.ensures, c.empty.ensures)
     (count_room _ (ascii "answer ") _ 27 (omega arith) (empty_room _ (omega arith)))
 
-unassigned-requires : tie.Need-append-count-requires-3
+pub append_count-requires : goal.append_count-requires
 unfolding ascii
-unassigned-requires c κs =
-    rw (c.before.append-count2.ensures, c.before.before.before.append-count.ensures, c.before.before.before.before.before.empty.ensures)
+append_count-requires c =
+    rw (c.append_count-stepped.ensures, c.append_count-numbered.ensures, c.empty.ensures)
     (count_room _ (ascii " steps ") _ 32 (omega arith) (count_room _ (ascii "answer ") _ 59 (omega arith) (empty_room _ (omega arith))))
 
-returns : tie.Need-returns
+pub returns : goal.returns
 unfolding ascii counts
 returns c =
-    let a = c.before.before.before.before.before.before.before.args in
+    let a = c.args in
     let one = ascii "answer " ++ decimal a.number in
     let two = ascii " steps " ++ decimal a.steps in
     let three = ascii " unassigned " ++ decimal a.unassigned in
     let short = counts_length a.number a.steps a.unassigned (omega arith) (omega arith) (omega arith) in
     let long = length-append (one ++ two) three in
     rw (
-      c.append-count3.ensures,
-      c.before.before.append-count2.ensures,
-      c.before.before.before.before.append-count.ensures,
-      c.before.before.before.before.before.before.empty.ensures,
+      c.append_count.ensures,
+      c.append_count-stepped.ensures,
+      c.append_count-numbered.ensures,
+      c.empty.ensures,
     )
     (ap (λ (x : Text). appended x three) (appended_twice empty one two (empty_room _ (omega (arith, short, long, length-append one two))))
     ∙ appended_twice empty (one ++ two) three (empty_room _ (omega (arith, short, long))))
-
-pub counts_spec : {M : Type 1} → statement M
-counts_spec =
-    tie.close
-    (tie.spec
-    (λ c κs. search rules)
-    (λ c. search rules)
-    number-requires
-    (λ c. search rules)
-    steps-requires
-    (λ c. search rules)
-    unassigned-requires
-    returns)

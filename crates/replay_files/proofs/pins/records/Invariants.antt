@@ -1,0 +1,17 @@
+use Prim.Native.Nat.{ℕ, ◌-◌, ◌/◌, ◌≤◌, min}
+use mathlib.Core.Path.{◌≡◌, refl, sym, ◌∙◌}
+use mathlib.Core.List.{List, ◌++◌}
+use native.Mathlib.Omega.{arith}
+use borrow.Author.Rules.{rules}
+use lib.ListN.{length, get_or, take, drop, replicate, length-replicate}
+use lib.Seq.{take-length}
+use Rattle.replay_files.specs.Pins as Pins
+use Rattle.replay_files.proofs.Words.{records_length, records_at, next_put}
+use Rattle.replay_files.proofs.pins.records.Given as goal
+
+abbrev pub invariant-loop-i : goal.invariant-loop-i
+invariant-loop-i l =
+    (l.i ≤ l.n) × (l.n ≡ length (Pins.records l.file)) × (l.n ≡ min (length l.file / 4 - 1) 16383) × (l.records ≡ take l.i (Pins.records l.file) ++ drop l.i (replicate Pins.most 0))
+
+abbrev pub decreases-loop-i : goal.decreases-loop-i
+decreases-loop-i l = l.n - l.i
