@@ -183,13 +183,13 @@ fn near_cases(seed: &mut u32) -> Tally {
 }
 
 // A line of the first part: the number of its first case, and what came of all its cases.
-fn near_line(seed: &mut u32, line: u16)
+fn near_line(rt: &impl Print, seed: &mut u32, line: u16)
     requires { line < 32 }
 {
     let tally = near_cases(seed);
-    lines::number((line * NEAR_CASES) as u64);
-    lines::number(tally.pended as u64);
-    lines::last(tally.sum);
+    lines::number(rt, (line * NEAR_CASES) as u64);
+    lines::number(rt, tally.pended as u64);
+    lines::last(rt, tally.sum);
 }
 
 // A case of the second part.
@@ -230,32 +230,32 @@ fn far_load(seed: &mut u32, line: u16) -> u16 {
 }
 
 // A line of the second part: its start, the cycles of its last case and the clock after them, and the sum of all its cases.
-fn far_line(seed: &mut u32, line: u16) {
+fn far_line(rt: &impl Print, seed: &mut u32, line: u16) {
     let load = far_load(seed, line);
     let before = start(seed, load);
     let last = far_cases(seed, before);
     let after = last.after;
-    lines::number(before.load as u64);
-    lines::number(before.decrementer as u64);
-    lines::number(before.phase as u64);
-    lines::number(last.cycles as u64);
-    lines::number(after.decrementer as u64);
-    lines::number(after.reading as u64);
-    lines::number(after.phase as u64);
-    lines::number(after.pending as u64);
-    lines::last(last.sum);
+    lines::number(rt, before.load as u64);
+    lines::number(rt, before.decrementer as u64);
+    lines::number(rt, before.phase as u64);
+    lines::number(rt, last.cycles as u64);
+    lines::number(rt, after.decrementer as u64);
+    lines::number(rt, after.reading as u64);
+    lines::number(rt, after.phase as u64);
+    lines::number(rt, after.pending as u64);
+    lines::last(rt, last.sum);
 }
 
-fn main() {
+fn main(rt: HostRuntime) {
     let mut seed: u32 = SEED;
     let mut n: u16 = 0;
     while n < NEAR_LINES {
-        near_line(&mut seed, n);
+        near_line(&rt, &mut seed, n);
         n += 1;
     }
     let mut k: u16 = 0;
     while k < FAR_LINES {
-        far_line(&mut seed, k);
+        far_line(&rt, &mut seed, k);
         k += 1;
     }
 }

@@ -78,36 +78,36 @@ pub fn tallied(tally: Tally, outcome: Outcome) -> Tally {
 }
 
 // The numbers of an answer.
-fn show_answer(answer: CompareAnswer) {
-    lines::number(answer.number as u64);
-    lines::number(answer.image as u64);
-    lines::number(answer.block as u64);
-    lines::number(answer.fields as u64);
-    lines::number(answer.runs as u64);
+fn show_answer(rt: &impl Print, answer: CompareAnswer) {
+    lines::number(rt, answer.number as u64);
+    lines::number(rt, answer.image as u64);
+    lines::number(rt, answer.block as u64);
+    lines::number(rt, answer.fields as u64);
+    lines::number(rt, answer.runs as u64);
 }
 
 // A line with an outcome.
-pub fn show(outcome: Outcome) {
+pub fn show(rt: &impl Print, outcome: Outcome) {
     let answer = outcome.answer;
     let ends = outcome.ends;
-    show_answer(answer);
-    lines::number(ends[0] as u64);
-    lines::number(ends[1] as u64);
-    lines::number(ends[2] as u64);
-    lines::number(ends[3] as u64);
-    lines::sum(outcome.listed);
-    lines::last(outcome.rest);
+    show_answer(rt, answer);
+    lines::number(rt, ends[0] as u64);
+    lines::number(rt, ends[1] as u64);
+    lines::number(rt, ends[2] as u64);
+    lines::number(rt, ends[3] as u64);
+    lines::sum(rt, outcome.listed);
+    lines::last(rt, outcome.rest);
 }
 
 // A line with one call's answer, and the sum of the places.
-pub fn show_call(first: &[u8], second: &[u8], places: &mut [u32; PLACES]) {
+pub fn show_call(rt: &impl Print, first: &[u8], second: &[u8], places: &mut [u32; PLACES]) {
     let answer = comparison::compare_images(first, second, places);
-    show_answer(answer);
-    lines::last(mix_places(0, places));
+    show_answer(rt, answer);
+    lines::last(rt, mix_places(0, places));
 }
 
 // A line with a tally.
-pub fn show_tally(tally: Tally) {
-    lines::number(tally.accepted);
-    lines::last(tally.sum);
+pub fn show_tally(rt: &impl Print, tally: Tally) {
+    lines::number(rt, tally.accepted);
+    lines::last(rt, tally.sum);
 }

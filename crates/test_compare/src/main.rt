@@ -42,6 +42,7 @@ fn one(
 
 // A pair shown by itself.
 fn show(
+    rt: &impl Print,
     bytes: &mut [u8],
     first: &mut [u8],
     second: &mut [u8],
@@ -54,11 +55,12 @@ fn show(
     requires second_len { length second.old ≡ Image.image_size + 1 }
 {
     let outcome = one(bytes, first, second, places, seed, pair);
-    calls::show(outcome);
+    calls::show(rt, outcome);
 }
 
 // All that are shown so.
 fn show_all(
+    rt: &impl Print,
     bytes: &mut [u8],
     first: &mut [u8],
     second: &mut [u8],
@@ -72,7 +74,7 @@ fn show_all(
     let mut n: u16 = 0;
     while n < pairs::SHOWN {
         let pair = pairs::shown_pair(seed, n);
-        show(bytes, first, second, places, seed, pair);
+        show(rt, bytes, first, second, places, seed, pair);
         n += 1;
     }
 }
@@ -91,7 +93,7 @@ fn length_of(n: u16) -> usize
 }
 
 // Parts of all these lengths.
-fn every_length(first: &[u8], second: &[u8], places: &mut [u32; PLACES])
+fn every_length(rt: &impl Print, first: &[u8], second: &[u8], places: &mut [u32; PLACES])
     requires first_len { length first.now ≡ Image.image_size + 1 }
     requires second_len { length second.now ≡ Image.image_size + 1 }
 {
@@ -99,7 +101,7 @@ fn every_length(first: &[u8], second: &[u8], places: &mut [u32; PLACES])
     while n < LENGTHS * LENGTHS {
         let of_first = length_of(n / LENGTHS);
         let of_second = length_of(n % LENGTHS);
-        calls::show_call(&first[0..of_first], &second[0..of_second], places);
+        calls::show_call(rt, &first[0..of_first], &second[0..of_second], places);
         n += 1;
     }
 }
@@ -124,6 +126,7 @@ fn add_pair(
 
 // A line: some pairs.
 fn line(
+    rt: &impl Print,
     bytes: &mut [u8],
     first: &mut [u8],
     second: &mut [u8],
@@ -143,11 +146,12 @@ fn line(
         tally = add_pair(bytes, first, second, places, seed, tally);
         i += 1;
     }
-    calls::show_tally(tally);
+    calls::show_tally(rt, tally);
 }
 
 // Many pairs.
 fn many(
+    rt: &impl Print,
     bytes: &mut [u8],
     first: &mut [u8],
     second: &mut [u8],
@@ -160,13 +164,14 @@ fn many(
 {
     let mut n: u32 = 0;
     while n < LINES {
-        line(bytes, first, second, places, seed);
+        line(rt, bytes, first, second, places, seed);
         n += 1;
     }
 }
 
 // Parts of a pair whose first image has this kind of damage.
 fn show_parts(
+    rt: &impl Print,
     bytes: &mut [u8],
     first: &mut [u8],
     second: &mut [u8],
@@ -180,11 +185,12 @@ fn show_parts(
 {
     let pair = pairs::any_first_damaged(seed, kind);
     pairs::make(bytes, first, second, seed, pair);
-    every_length(first, second, places);
+    every_length(rt, first, second, places);
 }
 
 // Parts of a pair without damage, and of one whose first image is refused for its filler.
 fn show_rounds(
+    rt: &impl Print,
     bytes: &mut [u8],
     first: &mut [u8],
     second: &mut [u8],
@@ -195,26 +201,26 @@ fn show_rounds(
     requires first_len { length first.old ≡ Image.image_size + 1 }
     requires second_len { length second.old ≡ Image.image_size + 1 }
 {
-    show_parts(bytes, first, second, places, seed, damage::NONE);
-    show_parts(bytes, first, second, places, seed, damage::FILLER);
+    show_parts(rt, bytes, first, second, places, seed, damage::NONE);
+    show_parts(rt, bytes, first, second, places, seed, damage::FILLER);
 }
 
 // All, on images in buffers that have one byte too many.
-fn all(bytes: &mut [u8], first: &mut [u8], second: &mut [u8], places: &mut [u32; PLACES])
+fn all(rt: &impl Print, bytes: &mut [u8], first: &mut [u8], second: &mut [u8], places: &mut [u32; PLACES])
     requires installed { Installed bytes.old }
     requires first_len { length first.old ≡ Image.image_size + 1 }
     requires second_len { length second.old ≡ Image.image_size + 1 }
 {
     let mut seed: u32 = 256;
-    show_all(bytes, first, second, places, &mut seed);
-    show_rounds(bytes, first, second, places, &mut seed);
-    many(bytes, first, second, places, &mut seed);
+    show_all(rt, bytes, first, second, places, &mut seed);
+    show_rounds(rt, bytes, first, second, places, &mut seed);
+    many(rt, bytes, first, second, places, &mut seed);
 }
 
-fn main() {
+fn main(rt: HostRuntime) {
     let mut bytes = [0u8; memory::SIZE];
     let mut first = [0u8; IMAGE_SIZE + 1];
     let mut second = [0u8; IMAGE_SIZE + 1];
     let mut places = [0xFFFFFFFFu32; PLACES];
-    all(&mut bytes, &mut first, &mut second, &mut places);
+    all(&rt, &mut bytes, &mut first, &mut second, &mut places);
 }

@@ -170,19 +170,19 @@ fn one(bytes: &mut [u8], image: &mut [u8], again: &mut [u8], seed: &mut u32, cas
 }
 
 // A case shown by itself.
-fn show(bytes: &mut [u8], image: &mut [u8], again: &mut [u8], seed: &mut u32, case: Case)
+fn show(rt: &impl Print, bytes: &mut [u8], image: &mut [u8], again: &mut [u8], seed: &mut u32, case: Case)
     requires installed { Installed bytes.old }
     requires image_len { length image.old ≡ Image.image_size }
     requires again_len { length again.old ≡ Image.image_size }
 {
     let outcome = one(bytes, image, again, seed, case);
-    lines::number(case.kind as u64);
-    lines::number(case.edition as u64);
-    lines::number(outcome.number as u64);
-    lines::number(outcome.block as u64);
-    lines::sum(outcome.answers);
-    lines::sum(outcome.memory);
-    lines::last(outcome.image);
+    lines::number(rt, case.kind as u64);
+    lines::number(rt, case.edition as u64);
+    lines::number(rt, outcome.number as u64);
+    lines::number(rt, outcome.block as u64);
+    lines::sum(rt, outcome.answers);
+    lines::sum(rt, outcome.memory);
+    lines::last(rt, outcome.image);
 }
 
 // Case `n` of every kind of damage in every class of places in either edition.
@@ -195,14 +195,14 @@ fn case_of(n: u16) -> Case {
 }
 
 // All of them.
-fn every_kind(bytes: &mut [u8], image: &mut [u8], again: &mut [u8], seed: &mut u32)
+fn every_kind(rt: &impl Print, bytes: &mut [u8], image: &mut [u8], again: &mut [u8], seed: &mut u32)
     requires installed { Installed bytes.old }
     requires image_len { length image.old ≡ Image.image_size }
     requires again_len { length again.old ≡ Image.image_size }
 {
     let mut n: u16 = 0;
     while n < 2 * damage::KINDS * damage::PLACES {
-        show(bytes, image, again, seed, case_of(n));
+        show(rt, bytes, image, again, seed, case_of(n));
         n += 1;
     }
 }
@@ -226,7 +226,7 @@ fn any_case(seed: &mut u32) -> Case {
 }
 
 // A line: some cases, and the sum.
-fn line(bytes: &mut [u8], image: &mut [u8], again: &mut [u8], seed: &mut u32)
+fn line(rt: &impl Print, bytes: &mut [u8], image: &mut [u8], again: &mut [u8], seed: &mut u32)
     requires installed { Installed bytes.old }
     requires image_len { length image.old ≡ Image.image_size }
     requires again_len { length again.old ≡ Image.image_size }
@@ -241,79 +241,79 @@ fn line(bytes: &mut [u8], image: &mut [u8], again: &mut [u8], seed: &mut u32)
         accepted = std::num::wrapping_add_u64(accepted, (outcome.number == 0) as u64);
         i += 1;
     }
-    lines::number(accepted);
-    lines::last(sum);
+    lines::number(rt, accepted);
+    lines::last(rt, sum);
 }
 
 // Many cases.
-fn many(bytes: &mut [u8], image: &mut [u8], again: &mut [u8], seed: &mut u32)
+fn many(rt: &impl Print, bytes: &mut [u8], image: &mut [u8], again: &mut [u8], seed: &mut u32)
     requires installed { Installed bytes.old }
     requires image_len { length image.old ≡ Image.image_size }
     requires again_len { length again.old ≡ Image.image_size }
 {
     let mut n: u32 = 0;
     while n < LINES {
-        line(bytes, image, again, seed);
+        line(rt, bytes, image, again, seed);
         n += 1;
     }
 }
 
 // Writes with a memory or an image that has one byte too many.
-fn write_longer(bytes: &[u8], image: &mut [u8])
+fn write_longer(rt: &impl Print, bytes: &[u8], image: &mut [u8])
     requires bytes_len { length bytes.now ≡ size + 1 }
     requires image_len { length image.old ≡ Image.image_size + 1 }
 {
     let state = State::blank();
     let memory = image::write_image(state, bytes, &mut image[0..image_blocks::IMAGE_SIZE]);
     let whole = image::write_image(state, &bytes[0..memory::SIZE], image);
-    lines::number(memory.number as u64);
-    lines::number(whole.number as u64);
+    lines::number(rt, memory.number as u64);
+    lines::number(rt, whole.number as u64);
 }
 
 // Reads with a memory or an image that has one byte too many.
-fn read_longer(image: &[u8], bytes: &mut [u8])
+fn read_longer(rt: &impl Print, image: &[u8], bytes: &mut [u8])
     requires bytes_len { length bytes.old ≡ size + 1 }
     requires image_len { length image.now ≡ Image.image_size + 1 }
 {
     let memory = image::read_image(&image[0..image_blocks::IMAGE_SIZE], bytes);
     let whole = image::read_image(image, &mut bytes[0..memory::SIZE]);
-    lines::number(memory.number as u64);
-    lines::number(whole.number as u64);
+    lines::number(rt, memory.number as u64);
+    lines::number(rt, whole.number as u64);
 }
 
 // The four calls, and the bytes, which they leave.
-fn longer(bytes: &mut [u8], image: &mut [u8])
+fn longer(rt: &impl Print, bytes: &mut [u8], image: &mut [u8])
     requires bytes_len { length bytes.old ≡ size + 1 }
     requires image_len { length image.old ≡ Image.image_size + 1 }
 {
-    write_longer(bytes, image);
-    read_longer(image, bytes);
-    lines::sum(seeds::mix_bytes(0, bytes));
-    lines::last(seeds::mix_bytes(0, image));
+    write_longer(rt, bytes, image);
+    read_longer(rt, image, bytes);
+    lines::sum(rt, seeds::mix_bytes(0, bytes));
+    lines::last(rt, seeds::mix_bytes(0, image));
 }
 
 // A memory and an image with one byte too many.
-fn show_longer() {
+fn show_longer(rt: &impl Print) {
     let mut bytes = [0u8; memory::SIZE + 1];
     let mut image = [0u8; image_blocks::IMAGE_SIZE + 1];
-    longer(&mut bytes, &mut image);
+    longer(rt, &mut bytes, &mut image);
 }
 
 // All cases, on bytes and images of the machine's sizes.
-fn all(bytes: &mut [u8], image: &mut [u8], again: &mut [u8])
+fn all(rt: &impl Print, bytes: &mut [u8], image: &mut [u8], again: &mut [u8])
     requires installed { Installed bytes.old }
     requires image_len { length image.old ≡ Image.image_size }
     requires again_len { length again.old ≡ Image.image_size }
 {
     let mut seed: u32 = 17408;
-    every_kind(bytes, image, again, &mut seed);
-    many(bytes, image, again, &mut seed);
+    every_kind(rt, bytes, image, again, &mut seed);
+    many(rt, bytes, image, again, &mut seed);
 }
 
-fn main() {
+fn main(rt: HostRuntime) {
     let mut bytes = [0u8; memory::SIZE];
     let mut image = [0u8; image_blocks::IMAGE_SIZE];
     let mut again = [0u8; image_blocks::IMAGE_SIZE];
-    show_longer();
-    all(&mut bytes, &mut image, &mut again);
+    show_longer(&rt);
+    all(&rt, &mut bytes, &mut image, &mut again);
 }

@@ -4,7 +4,6 @@ ghost use Rattle.std.specs.Prelude.{◌≡◌, ◌+◌, ◌<◌, ◌≤◌, leng
 ghost use Rattle.memory.specs.Memory.{Installed, size};
 ghost use Rattle.listing.specs.Listing.{least_buffer};
 
-use libc::STDOUT_FILENO;
 use listing::ListAnswer;
 use memory::Width;
 use notation::Words;
@@ -95,15 +94,15 @@ fn list(bytes: &[u8], address: u16, text: &mut [u8]) -> ListAnswer
 }
 
 // Prints the first bytes of a text, and the line's end.
-fn print(text: &[u8], count: usize)
+fn print(rt: &impl Print, text: &[u8], count: usize)
     requires { count ≤ length text.now }
 {
-    io::write_all(STDOUT_FILENO, &text[0..count]);
-    io::write_all(STDOUT_FILENO, b"\n");
+    let _ = rt.write_all(&text[0..count]);
+    let _ = rt.write_all(b"\n");
 }
 
 // Shows the line of a word that two others follow.
-fn show(bytes: &mut [u8], word: u16)
+fn show(rt: &impl Print, bytes: &mut [u8], word: u16)
     requires { Installed bytes.old }
 {
     let words = Words {
@@ -114,11 +113,11 @@ fn show(bytes: &mut [u8], word: u16)
     put(bytes, SHOWN_AT, words);
     let mut text = [0u8; listing::LEAST_BUFFER];
     let answer = list(bytes, SHOWN_AT, &mut text);
-    print(&text, answer.length);
+    print(rt, &text, answer.length);
 }
 
 // Shows the lines from number `from` to before `to`: a word of each step from `first` on. The 108 is SHOWN.
-fn show_steps(bytes: &mut [u8], first: u16, step: u16, from: u16, to: u16)
+fn show_steps(rt: &impl Print, bytes: &mut [u8], first: u16, step: u16, from: u16, to: u16)
     requires installed { Installed bytes.old }
     requires step_nonzero { 0 < step }
     requires to_bound { to ≤ 108 }
@@ -127,6 +126,7 @@ fn show_steps(bytes: &mut [u8], first: u16, step: u16, from: u16, to: u16)
     let mut k = from;
     while k < to {
         show(
+            rt,
             bytes,
             std::num::wrapping_add_u16(code, k * SHOWN_SPREAD % step),
         );
@@ -136,12 +136,12 @@ fn show_steps(bytes: &mut [u8], first: u16, step: u16, from: u16, to: u16)
 }
 
 // The first part of the output: four ranges of words, each with its step and the numbers of its lines.
-fn show_all() {
+fn show_all(rt: &impl Print) {
     let mut bytes = [0u8; memory::SIZE];
-    show_steps(&mut bytes, 0x0000, 0x0020, 0, 64);
-    show_steps(&mut bytes, 0x0800, 0x0100, 64, 88);
-    show_steps(&mut bytes, 0x2000, 0x0400, 88, 96);
-    show_steps(&mut bytes, 0x4000, 0x1000, 96, SHOWN);
+    show_steps(rt, &mut bytes, 0x0000, 0x0020, 0, 64);
+    show_steps(rt, &mut bytes, 0x0800, 0x0100, 64, 88);
+    show_steps(rt, &mut bytes, 0x2000, 0x0400, 88, 96);
+    show_steps(rt, &mut bytes, 0x4000, 0x1000, 96, SHOWN);
 }
 
 // The address of a pass: one of the last four before the memory's end, which is 0x4000, one of the last four of all, or any.
@@ -253,25 +253,25 @@ fn values(bytes: &mut [u8], seed: &mut u32, pass: u16, first: u16) -> Tally
 }
 
 // A line: new memory, its values, and the sums.
-fn line(bytes: &mut [u8], seed: &mut u32, n: u16)
+fn line(rt: &impl Print, bytes: &mut [u8], seed: &mut u32, n: u16)
     requires { length bytes.old ≡ size + 2 }
 {
     seeds::fill(&mut bytes[0..memory::SIZE], seed);
     let first = n % PASS * WORDS;
     let tally = values(bytes, seed, n / PASS, first);
-    lines::number(first as u64);
-    lines::number(tally.accepted as u64);
-    lines::number(tally.length);
-    lines::last(tally.sum);
+    lines::number(rt, first as u64);
+    lines::number(rt, tally.accepted as u64);
+    lines::number(rt, tally.length);
+    lines::last(rt, tally.sum);
 }
 
-fn main() {
-    show_all();
+fn main(rt: HostRuntime) {
+    show_all(&rt);
     let mut bytes = [0u8; MEMORY];
     let mut seed: u32 = SEED;
     let mut n: u16 = 0;
     while n < LINES {
-        line(&mut bytes, &mut seed, n);
+        line(&rt, &mut bytes, &mut seed, n);
         n += 1;
     }
 }

@@ -128,7 +128,7 @@ fn one(bytes: &mut [u8], seed: &mut u32, records: &mut [u32], tally: Tally) -> T
 }
 
 // A line: some memories, the counts, and the sum.
-fn line(bytes: &mut [u8], seed: &mut u32, records: &mut [u32])
+fn line(rt: &impl Print, bytes: &mut [u8], seed: &mut u32, records: &mut [u32])
     requires installed { Installed bytes.old }
     requires records_len { length records.old ≡ 1024 }
 {
@@ -142,19 +142,19 @@ fn line(bytes: &mut [u8], seed: &mut u32, records: &mut [u32])
         tally = one(bytes, seed, records, tally);
         i += 1;
     }
-    lines::number(tally.moved);
-    lines::number(tally.frozen);
-    lines::last(tally.sum);
+    lines::number(rt, tally.moved);
+    lines::number(rt, tally.frozen);
+    lines::last(rt, tally.sum);
 }
 
 // All lines.
-pub fn section(bytes: &mut [u8], seed: &mut u32, records: &mut [u32])
+pub fn section(rt: &impl Print, bytes: &mut [u8], seed: &mut u32, records: &mut [u32])
     requires installed { Installed bytes.old }
     requires records_len { length records.old ≡ 1024 }
 {
     let mut n: u32 = 0;
     while n < LINES {
-        line(bytes, seed, records);
+        line(rt, bytes, seed, records);
         n += 1;
     }
 }

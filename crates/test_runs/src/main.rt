@@ -296,7 +296,7 @@ fn one(
 }
 
 // A line: some memories, and the sums.
-fn line(bytes: &mut [u8], copy: &mut [u8], seed: &mut u32, records: &mut [u32])
+fn line(rt: &impl Print, bytes: &mut [u8], copy: &mut [u8], seed: &mut u32, records: &mut [u32])
     requires installed { Installed bytes.old }
     requires installed_2 { Installed copy.old }
     requires records_len { length records.old ≡ 1024 }
@@ -313,13 +313,13 @@ fn line(bytes: &mut [u8], copy: &mut [u8], seed: &mut u32, records: &mut [u32])
         course = one(bytes, copy, seed, records, course);
         i += 1;
     }
-    lines::number(course.steps);
-    lines::number(course.unassigned);
-    lines::last(course.sum);
+    lines::number(rt, course.steps);
+    lines::number(rt, course.unassigned);
+    lines::last(rt, course.sum);
 }
 
 // Calls on memories of another size than the machine's.
-fn other_sizes() {
+fn other_sizes(rt: &impl Print) {
     let blank = State::blank();
     let mut long = [0u8; memory::SIZE + 1];
     let records = [0u32; 1];
@@ -328,24 +328,24 @@ fn other_sizes() {
     let state = up.state;
     let mut short = [0u8; memory::SIZE - 1];
     let up_short = run::power_up(&mut short);
-    lines::number(up.number as u64);
-    lines::number(ran.number as u64);
-    lines::number(up_short.number as u64);
-    lines::sum(states::mix_state(0, state));
-    lines::last(seeds::mix_bytes(0, &long));
+    lines::number(rt, up.number as u64);
+    lines::number(rt, ran.number as u64);
+    lines::number(rt, up_short.number as u64);
+    lines::sum(rt, states::mix_state(0, state));
+    lines::last(rt, seeds::mix_bytes(0, &long));
 }
 
-fn main() {
+fn main(rt: HostRuntime) {
     let mut bytes = [0u8; memory::SIZE];
     let mut copy = [0u8; memory::SIZE];
     let mut records = [0u32; 1024];
     let mut seed: u32 = 9900;
-    other_sizes();
+    other_sizes(&rt);
     let mut n: u32 = 0;
     while n < LINES {
-        line(&mut bytes, &mut copy, &mut seed, &mut records);
+        line(&rt, &mut bytes, &mut copy, &mut seed, &mut records);
         n += 1;
     }
-    clock_mode::section(&mut bytes, &mut seed, &mut records);
-    read_only::section(&mut bytes, &mut copy, &mut seed, &mut records);
+    clock_mode::section(&rt, &mut bytes, &mut seed, &mut records);
+    read_only::section(&rt, &mut bytes, &mut copy, &mut seed, &mut records);
 }

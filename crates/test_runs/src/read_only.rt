@@ -201,7 +201,7 @@ fn one(
 }
 
 // A line: some memories, the count, and the sum.
-fn line(bytes: &mut [u8], copy: &mut [u8], seed: &mut u32, records: &mut [u32])
+fn line(rt: &impl Print, bytes: &mut [u8], copy: &mut [u8], seed: &mut u32, records: &mut [u32])
     requires installed { Installed bytes.old }
     requires installed_2 { Installed copy.old }
     requires records_len { length records.old ≡ 1024 }
@@ -212,19 +212,19 @@ fn line(bytes: &mut [u8], copy: &mut [u8], seed: &mut u32, records: &mut [u32])
         tally = one(bytes, copy, seed, records, tally);
         i += 1;
     }
-    lines::number(tally.other);
-    lines::last(tally.sum);
+    lines::number(rt, tally.other);
+    lines::last(rt, tally.sum);
 }
 
 // All lines.
-pub fn section(bytes: &mut [u8], copy: &mut [u8], seed: &mut u32, records: &mut [u32])
+pub fn section(rt: &impl Print, bytes: &mut [u8], copy: &mut [u8], seed: &mut u32, records: &mut [u32])
     requires installed { Installed bytes.old }
     requires installed_2 { Installed copy.old }
     requires records_len { length records.old ≡ 1024 }
 {
     let mut n: u32 = 0;
     while n < LINES {
-        line(bytes, copy, seed, records);
+        line(rt, bytes, copy, seed, records);
         n += 1;
     }
 }

@@ -177,25 +177,25 @@ fn words(bytes: &mut [u8], seed: &mut u32, first: u16, pass: u16) -> Tally
 }
 
 // A line: new memory, its words, and the sums.
-fn line(bytes: &mut [u8], seed: &mut u32, n: u16)
+fn line(rt: &impl Print, bytes: &mut [u8], seed: &mut u32, n: u16)
     requires installed { Installed bytes.old }
     requires n_bound { n < 224 }
 {
     seeds::fill(bytes, seed);
     let first = n % PASS * WORDS;
     let tally = words(bytes, seed, first, n / PASS);
-    lines::number(first as u64);
-    lines::number(tally.unassigned);
-    lines::sum(tally.sum);
-    lines::last(seeds::mix_bytes(0, bytes));
+    lines::number(rt, first as u64);
+    lines::number(rt, tally.unassigned);
+    lines::sum(rt, tally.sum);
+    lines::last(rt, seeds::mix_bytes(0, bytes));
 }
 
-fn main() {
+fn main(rt: HostRuntime) {
     let mut bytes = [0u8; memory::SIZE];
     let mut seed: u32 = 9980;
     let mut n: u16 = 0;
     while n < LINES {
-        line(&mut bytes, &mut seed, n);
+        line(&rt, &mut bytes, &mut seed, n);
         n += 1;
     }
 }
