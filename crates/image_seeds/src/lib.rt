@@ -1,4 +1,5 @@
 // Images from a seed: states for them, editions, and damage.
+#![tactic(auto)]
 ghost use Rattle.std.specs.Prelude.{◌<◌};
 
 use machine::State;

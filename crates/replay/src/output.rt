@@ -45,7 +45,7 @@ fn last_part(path: &[u8]) -> usize
 }
 
 // Puts the name of a temporary beside `path` into the buffer, and answers its length; where that is too long, the
-// buffer's length, which no file's name has.
+// buffer's length, which no file's name has. The buffer comes with no NUL in it.
 fn name_temporary(path: &[u8], name: &mut [u8]) -> usize
     requires { length name.old ≡ 4096 }
     ensures lower_bound { 14 ≤ result }
@@ -128,7 +128,7 @@ pub fn replace(rt: &(impl Files + Eprint), path: &[u8], bytes: &[u8]) -> bool {
     if !is_replaceable(rt, path) {
         return false;
     }
-    let mut name = [0u8; 4096];
+    let mut name = [b'.'; 4096];
     let end = name_temporary(path, &mut name);
     let file = match create(rt, &mut name, end) {
         Ok(file) => file,

@@ -1,4 +1,6 @@
 // Inputs for the test programs, made from a seed, and sums of what came out. The independent program makes the same ones.
+#![tactic(auto)]
+
 ghost use Rattle.std.specs.Prelude.{◌<◌};
 
 pub mod lines;

@@ -1,6 +1,8 @@
 // The clock advanced from many starts, well formed or not: first by counts up to some rounds, nearly half of them around a tick that
 // brings it to 0, then by any count of 32 bits. Each line has the sum of its cases, a line of the second part also its start and its
 // last case.
+#![tactic(auto)]
+
 ghost use Rattle.std.specs.Prelude.{◌<◌, ◌≤◌};
 
 use psi::Psi;

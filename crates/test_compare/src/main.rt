@@ -1,5 +1,7 @@
 // Pairs of images of both editions that differ in bytes of the memory and in fields, damaged or not, compared; and parts of images of wrong
 // lengths.
+#![tactic(auto)]
+
 ghost use Rattle.std.specs.Prelude.{◌≡◌, ◌+◌, ◌≤◌, length};
 ghost use Rattle.memory.specs.Memory.{Installed};
 ghost use Rattle.image_blocks.specs.Image as Image;
@@ -206,7 +208,13 @@ fn show_rounds(
 }
 
 // All, on images in buffers that have one byte too many.
-fn all(rt: &impl Print, bytes: &mut [u8], first: &mut [u8], second: &mut [u8], places: &mut [u32; PLACES])
+fn all(
+    rt: &impl Print,
+    bytes: &mut [u8],
+    first: &mut [u8],
+    second: &mut [u8],
+    places: &mut [u32; PLACES],
+)
     requires installed { Installed bytes.old }
     requires first_len { length first.old ≡ Image.image_size + 1 }
     requires second_len { length second.old ≡ Image.image_size + 1 }

@@ -1,5 +1,7 @@
 // Images written, made ones of edition 1 or not, damaged, read, and written again, with lent parts of the right and of wrong lengths; sums
 // of what came of it.
+#![tactic(auto)]
+
 ghost use Rattle.std.specs.Prelude.{◌≡◌, ◌+◌, ◌<◌, ◌≤◌, length};
 ghost use Rattle.memory.specs.Memory.{Installed, size};
 ghost use Rattle.image_blocks.specs.Image as Image;
@@ -170,7 +172,14 @@ fn one(bytes: &mut [u8], image: &mut [u8], again: &mut [u8], seed: &mut u32, cas
 }
 
 // A case shown by itself.
-fn show(rt: &impl Print, bytes: &mut [u8], image: &mut [u8], again: &mut [u8], seed: &mut u32, case: Case)
+fn show(
+    rt: &impl Print,
+    bytes: &mut [u8],
+    image: &mut [u8],
+    again: &mut [u8],
+    seed: &mut u32,
+    case: Case,
+)
     requires installed { Installed bytes.old }
     requires image_len { length image.old ≡ Image.image_size }
     requires again_len { length again.old ≡ Image.image_size }

@@ -1,5 +1,7 @@
 // Lines of the listing for words all over the range, shown. Then passes over all words, and sums of what came of them: five as an
 // instruction's first word, two as a further one, all accepted; and one more with memories and buffers of wrong lengths among them.
+#![tactic(auto)]
+
 ghost use Rattle.std.specs.Prelude.{◌≡◌, ◌+◌, ◌<◌, ◌≤◌, length};
 ghost use Rattle.memory.specs.Memory.{Installed, size};
 ghost use Rattle.listing.specs.Listing.{least_buffer};

@@ -1,5 +1,7 @@
 // Runs of generated programs and of any bytes, with pin records and stop addresses, each also in single steps on a copy of the memory; and
 // refused calls; sums of the answer of every step and of what came of them. Then single steps in clock mode, and with a read-only part.
+#![tactic(auto)]
+
 ghost use Rattle.std.specs.Prelude.{◌≡◌, ◌<◌, ◌≤◌, length};
 ghost use Rattle.memory.specs.Memory.{Installed};
 
@@ -216,7 +218,7 @@ fn call(
         );
     }
     let plan = next_plan(seed, state.pc);
-    bytes::copy(bytes, copy);
+    copy.copy_from_slice(bytes);
     let mut next = course;
     next.sum = single_steps(copy, state, records, plan, course.sum);
     followed(next, run_plan(bytes, state, records, plan))

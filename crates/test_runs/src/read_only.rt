@@ -141,7 +141,7 @@ fn compared(
     requires records_len { length records.now ≡ 1024 }
     requires from_bound { from ≤ 255 }
 {
-    bytes::copy(bytes, copy);
+    copy.copy_from_slice(bytes);
     let free = without(copy, state, records, from, tally.sum);
     let with = steps(bytes, state, records, from, free.sum);
     let one = free.state;
@@ -217,7 +217,13 @@ fn line(rt: &impl Print, bytes: &mut [u8], copy: &mut [u8], seed: &mut u32, reco
 }
 
 // All lines.
-pub fn section(rt: &impl Print, bytes: &mut [u8], copy: &mut [u8], seed: &mut u32, records: &mut [u32])
+pub fn section(
+    rt: &impl Print,
+    bytes: &mut [u8],
+    copy: &mut [u8],
+    seed: &mut u32,
+    records: &mut [u32],
+)
     requires installed { Installed bytes.old }
     requires installed_2 { Installed copy.old }
     requires records_len { length records.old ≡ 1024 }

@@ -1,5 +1,7 @@
 // Every word executed seven times, from different states and memories, two of them through X, and the last two with a read-only part; sums
 // of what is told of every word and of what came of it.
+#![tactic(auto)]
+
 ghost use Rattle.std.specs.Prelude.{◌<◌, ◌≤◌};
 ghost use Rattle.memory.specs.Memory.{Installed};
 
