@@ -1,5 +1,6 @@
 // Images from a seed: states for them, editions, and damage.
 #![tactic(auto)]
+
 ghost use Rattle.std.specs.Prelude.{◌<◌};
 
 use machine::State;
