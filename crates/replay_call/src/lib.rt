@@ -1,4 +1,6 @@
 // The replay on bytes: what the program does between reading its files and writing its output.
+#![tactic(auto)]
+
 ghost use Rattle.std.specs.Prelude.{◌≡◌, length};
 ghost use Rattle.io.specs.Counts.{IsPrefixLen};
 ghost use Rattle.machine.specs.Run as Run;

@@ -1,1 +1,2 @@
 // No code: theorems about the program's definition, in specs/ and proofs/.
+#![tactic(auto)]

@@ -12,16 +12,16 @@ filled : (s : State) (m : List ℕ) →
 unfolding put_word unchecked content padded words_bytes fields
 filled s m = refl
 
-put-reduced : (b : List ℕ) (at x : ℕ) → put_word b at (x % 65536) ≡ put_word b at x
+put_reduced : (b : List ℕ) (at x : ℕ) → put_word b at (x % 65536) ≡ put_word b at x
 unfolding put_word
-put-reduced b at x =
+put_reduced b at x =
     rw (let e : x % 65536 / 256 % 256 ≡ x / 256 % 256 = omega arith in e, let e : x % 65536 % 256 ≡ x % 256 = omega arith in e)
 
 pub returns : goal.returns
 returns c m =
     rw (
       c.put_field-15.ensures,
-      put-reduced,
+      put_reduced,
       c.put_field-14.ensures,
       c.put_field-13.ensures,
       c.put_field-12.ensures,

@@ -6,9 +6,9 @@ use Rattle.image_blocks.specs.Image.{zeros}
 use Rattle.image_blocks.proofs.zeros.Goals as goal
 
 -- no bit is set in either just if none is in the one and none in the other
-or-none : (a b : ℕ) → eqb (bit_or a b) 0 ≡ (eqb a 0 && eqb b 0)
-or-none zero b = refl
-or-none (suc a) b =
+or_none : (a b : ℕ) → eqb (bit_or a b) 0 ≡ (eqb a 0 && eqb b 0)
+or_none zero b = refl
+or_none (suc a) b =
     ne_eqb (bit_or (suc a) b) 0 (λ e. absurd (omega (arith, or_add_and (suc a) b, and_le_r (suc a) b, e)))
     ∙ sym (rw (ne_eqb (suc a) 0 (λ e. absurd (omega arith))))
 
@@ -16,7 +16,7 @@ or-none (suc a) b =
 one_more : (l : List ℕ) (i a : ℕ) → i < length l → (eqb a 0 && zeros (drop i l)) ≡ (eqb (bit_or a (get_or l i 0)) 0 && zeros (drop (i + 1) l))
 unfolding zeros
 one_more l i a h =
-    rw (drop-cons l i 0 h, let e : i + 1 ≡ suc i = omega arith in e, or-none a (get_or l i 0))
+    rw (drop-cons l i 0 h, let e : i + 1 ≡ suc i = omega arith in e, or_none a (get_or l i 0))
     (sym (and_assoc (eqb a 0) (eqb (get_or l i 0) 0) (zeros (drop (suc i) l))))
 
 pub loop-i-init : goal.loop-i-init

@@ -10,8 +10,8 @@ use Rattle.psi.proofs.Select.{s0_low, s0_high}
 use borrow.Author.Rules.{rules}
 use Rattle.psi.proofs.Psi.drive.Goals as goal
 
-s0-at-0 : (n : ℕ) → n ≡ 0 → bit cru_select n ≡ false
-s0-at-0 n z = s0_low n (omega arith)
+s0_at_0 : (n : ℕ) → n ≡ 0 → bit cru_select n ≡ false
+s0_at_0 n z = s0_low n (omega arith)
 
 pub returns-then-control : goal.returns-then-control
 unfolding selected written driven
@@ -61,4 +61,4 @@ returns-else-n-lt-BITS c =
 
 pub returns-then-n-eq0 : goal.returns-then-n-eq0
 unfolding selected written driven
-returns-then-n-eq0 c = rw (s0-at-0 _ c.if-n-eq0.true, eq-eqb _ _ c.if-n-eq0.true, c.controlled.ensures)
+returns-then-n-eq0 c = rw (s0_at_0 _ c.if-n-eq0.true, eq-eqb _ _ c.if-n-eq0.true, c.controlled.ensures)
