@@ -14,6 +14,6 @@ pub returns-in-Byte : goal.returns-in-Byte
 unfolding stored spread place
 returns-in-Byte c = rw c.in-Byte.is (simp (add-zero, div-one, mul-one))
 
-pub returns_in_Word : goal.returns-in-Word
+pub returns-in-Word : goal.returns-in-Word
 unfolding stored spread place
-returns_in_Word c = rw c.in-Word.is (simp (add-zero, mod-eq_of_lt (let e : c.args.value / 256 < 256 = omega arith in e)))
+returns-in-Word c = rw c.in-Word.is (simp (add-zero, mod-eq_of_lt (let e : c.args.value / 256 < 256 = omega arith in e)))

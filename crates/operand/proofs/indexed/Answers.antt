@@ -4,9 +4,9 @@ use Rattle.machine.specs.Operands.{indexed}
 use Rattle.std.proofs.Common.{◌<◌, add-zero, mod-eq_of_lt, arith, rules, eq-eqb, ne_eqb}
 use Rattle.operand.proofs.indexed.Goals as goal
 
-pub returns_then_n_eq0 : goal.returns-then-n-eq0
+pub returns-then-n-eq0 : goal.returns-then-n-eq0
 unfolding indexed
-returns_then_n_eq0 c v = rw (perform_bind, c.fetch-base.ensures v, eq-eqb _ _ c.if-n-eq0.true, perform_done, add-zero, mod-eq_of_lt (let h : c.fetch-base.result.value < 65536 = omega arith in h))
+returns-then-n-eq0 c v = rw (perform_bind, c.fetch-base.ensures v, eq-eqb _ _ c.if-n-eq0.true, perform_done, add-zero, mod-eq_of_lt (let h : c.fetch-base.result.value < 65536 = omega arith in h))
 
 pub returns : goal.returns
 unfolding indexed

@@ -5,9 +5,9 @@ use Rattle.machine.proofs.Bind.{perform_done}
 use Rattle.machine.specs.Groups.{store_absolute}
 use Rattle.single_ops.proofs.store_absolute.Goals as goal
 
-pub returns_then_bit : goal.returns-then-bit
+pub returns-then-bit : goal.returns-then-bit
 unfolding store_absolute absolute
-returns_then_bit c v = let e : c.wrapping_sub_u16.result ≡ (65536 - c.args.x) % 65536 = omega arith in rw (← c.bit.ensures, c.if-bit.true, ← e) (c.store.ensures v)
+returns-then-bit c v = let e : c.wrapping_sub_u16.result ≡ (65536 - c.args.x) % 65536 = omega arith in rw (← c.bit.ensures, c.if-bit.true, ← e) (c.store.ensures v)
 
 pub returns : goal.returns
 unfolding store_absolute
