@@ -1,4 +1,4 @@
-//! Links the static library that `rt staticlib tms_replay` writes.
+//! Links the static library that `examples/library` writes.
 
 fn main() {
     let root = std::env::var("CARGO_MANIFEST_DIR").unwrap();
