@@ -2,7 +2,7 @@
 ! owes stands in tms_replay.h. The names are those of C, but for two arguments: `stop_at` is `stop` there, and
 ! `block_number` is `block`. The places of a state's numbers, of a run's counts and of the numbers about a line or about two
 ! images are counted from 1, in C from 0. Compile this file with the program, and link target/staticlib/libtms_replay.a, which
-! `rt staticlib tms_replay` writes.
+! `examples/library` builds.
 
 module tms_replay
   use, intrinsic :: iso_c_binding, only: c_int8_t, c_int16_t, c_int32_t, c_int64_t, c_size_t

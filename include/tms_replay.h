@@ -1,6 +1,7 @@
 /* The replay machine for a TMS 9980A with a TMS 9901, as a static library.
 
-   Build it with `rt staticlib tms_replay`; link target/staticlib/libtms_replay.a.
+   Build it with `examples/library`; link target/staticlib/libtms_replay.a. It is compiled for
+   x86-64-v2, and does not check that the processor has all of that.
 
    Memory, image, records and text are lent: a pointer and the number of elements. A refusal
    changes nothing that is lent, and a slice that is `const` is never changed. `state` after power
@@ -14,7 +15,7 @@
    of a comparison may be the same bytes. Nothing is kept after a call, and nothing is allocated.
 
    The contracts of the functions, proved for all arguments, stand in
-   crates/tms_replay/src/exported.rt, the definitions that they cite in
+   crates/tms_replay_c/src/lib.rt, the definitions that they cite in
    crates/tms_replay/specs/Exported.antt, and what state an array is in
    crates/state_array/specs/Arrays.antt. For Fortran: tms_replay.f90 beside this file. */
 
