@@ -1,6 +1,6 @@
 -- A signed number is the raised one less half the values. Differences of two numbers are equal where the numbers are moved alike,
 -- so orders and sums of signed numbers are those of the raised ones.
-use Rattle.std.proofs.Common.{◌≡◌, ℕ, zero, suc, ◌+◌, ◌-◌, ◌%◌, ◌<◌, ◌≤◌, Bool, ◌||◌, ltb, leb, ℤ, pos, negsuc, ◌+ℤ◌, ◌-ℤ◌, neg_ℤ, sym, refl, ap, ◌∙◌, zero-add, arith, le-ltb, lt-ltb, le-leb}
+use Rattle.std.proofs.Common.{◌≡◌, ℕ, zero, suc, ◌+◌, ◌-◌, ◌%◌, ◌<◌, ◌≤◌, Bool, ◌||◌, ltb, leb, pos, negsuc, ◌+ℤ◌, neg_ℤ, sym, refl, ap, ◌∙◌, zero-add, arith, le-ltb, lt-ltb, le-leb}
 use lib.IntN.{sub_ℕ}
 use lib.Signed.{lt_z, le_z}
 use borrow.Author.Tests.{lt-leb}

@@ -7,7 +7,6 @@ use Rattle.memory.specs.declared.Width.TheVariants.{Byte, Word}
 use Rattle.memory.specs.Memory.{modulus}
 use Rattle.alu.specs.Status.{half}
 use Rattle.alu.specs.Raised.{raised}
-use Rattle.alu.specs.Sums.{sum_overflows, difference_overflows}
 use Rattle.alu.specs.Laws.{differ, SumOverflowSigns, DifferenceOverflowSigns, SignChangesAtOnce}
 use Rattle.alu.proofs.Laws.{either_side}
 use Rattle.alu.proofs.Raised.{raised_sum, raised_difference}

@@ -1,5 +1,5 @@
 -- How the code compares signed numbers without negative ones: each is raised by half the width's values, and the order stays.
-use Rattle.std.specs.Prelude.{◌≡◌, ℕ, ◌+◌, ◌%◌, ◌||◌, pos, int_lt, nat_le, nat_lt}
+use Rattle.std.specs.Prelude.{◌≡◌, ℕ, ◌+◌, ◌%◌, ◌||◌, int_lt, nat_le, nat_lt}
 use Rattle.std.proofs.Math.IntN.{sub_ℕ}
 use Rattle.memory.specs.declared.Width.{Width}
 use Rattle.memory.specs.Memory.{modulus}

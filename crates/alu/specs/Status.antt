@@ -1,5 +1,5 @@
 -- Status bits: comparison, parity, carry and overflow, and the conditions of the jumps.
-use Rattle.std.specs.Prelude.{ℕ, ◌+◌, ◌/◌, ◌%◌, Bool, true, not, ◌&&◌, ◌||◌, ℤ, pos, ◌==◌, count_ones, int_lt, nat_lt}
+use Rattle.std.specs.Prelude.{ℕ, ◌/◌, ◌%◌, Bool, true, not, ◌&&◌, ◌||◌, ℤ, pos, ◌==◌, count_ones, int_lt, nat_lt}
 use Rattle.std.proofs.Math.IntN.{sub_ℕ}
 use Rattle.bits.specs.Bits.{if◌then◌else◌, bit, put}
 use Rattle.memory.specs.declared.Width.{Width}

@@ -1,5 +1,5 @@
 -- Numbers joined bit by bit.
-use Rattle.std.specs.Prelude.{ℕ, zero, suc, ◌+◌, ◌-◌, ◌*◌, ◌/◌, ◌%◌, Bool, true, false, not, ◌&&◌, ◌||◌}
+use Rattle.std.specs.Prelude.{ℕ, zero, suc, ◌+◌, ◌-◌, ◌*◌, ◌/◌, ◌%◌, Bool, not, ◌&&◌, ◌||◌}
 use Rattle.bits.specs.Bits.{one_if, bit}
 
 -- the k lowest bits of two numbers, each pair joined by f

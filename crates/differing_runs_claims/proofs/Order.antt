@@ -1,13 +1,12 @@
 -- Two rising lists with the same members are equal: the first of each is the lowest of its members, so the two first are one, and the others
 -- of each are the others of the other.
-use Prim.Native.Nat.{ℕ, zero, suc, ◌<◌}
+use Prim.Native.Nat.{zero, suc, ◌<◌}
 use mathlib.Core.Path.{◌≡◌, refl, sym, ap, ap₂, subst, ◌∙◌}
 use mathlib.Core.Logic.{◌⊎◌, inl, inr, ⊎_elim}
 use mathlib.Core.List.{List, [], ◌∷◌}
 use native.Mathlib.Omega.{arith}
-use lib.ListN.{length}
 use Rattle.differing_runs.specs.Runs.{Stretch}
-use Rattle.differing_runs_claims.specs.Claims.{stretch, Among, Rising}
+use Rattle.differing_runs_claims.specs.Claims.{Among, Rising}
 
 first_or_other : (x : Stretch) (l : List Stretch) (r : Stretch) → Among (x ∷ l) r → (x ≡ r) ⊎ Among l r
 first_or_other x l r (zero, h, e) = inl e

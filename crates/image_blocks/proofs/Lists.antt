@@ -1,8 +1,8 @@
 -- Parts of lists, and lists put together of equal parts.
-use Rattle.std.proofs.Common.{◌≡◌, ℕ, zero, suc, ◌+◌, ◌-◌, ◌*◌, ◌<◌, ◌≤◌, min, List, [], ◌∷◌, ◌++◌, length, take, drop, replicate, sym, ap, ◌∙◌, append_assoc, append-nil, add-zero, mul-zero, arith, length-append, length-drop, drop_of_length-le, length-take, length-take-le, take_all, drop-drop, take_at, take-add, drop_at}
+use Rattle.std.proofs.Common.{◌≡◌, ℕ, zero, suc, ◌+◌, ◌-◌, ◌*◌, ◌<◌, ◌≤◌, min, List, [], ◌∷◌, ◌++◌, length, take, drop, sym, ap, ◌∙◌, append_assoc, append-nil, add-zero, mul-zero, arith, length-append, length-drop, length-take, length-take-le, take_all, drop-drop, take_at, take-add, drop_at}
 use lib.ListN.{length-replicate}
 use borrow.Rule.Slice.PartMut.{put_mid}
-use lib.Seq.{take-length, take-nil, drop-append-add}
+use lib.Seq.{take-nil, drop-append-add}
 use Rattle.image_blocks.specs.Image.{padded}
 
 pub drop_take : (a n : ℕ) (l : List ℕ) → drop a (take n l) ≡ take (n - a) (drop a l)

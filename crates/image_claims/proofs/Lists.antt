@@ -4,7 +4,7 @@ use mathlib.Core.Path.{◌≡◌, refl, sym, ap, ◌∙◌}
 use mathlib.Core.List.{List, ◌++◌}
 use native.Mathlib.Omega.{arith}
 use native.Mathlib.Nat.{mul-zero}
-use lib.ListN.{length, get_or, take, drop, replicate, length-take, length-drop}
+use lib.ListN.{length, get_or, take, drop, length-take, length-drop}
 use lib.Seq.{take-add, drop-drop, get_or-take, get_or-drop, ext_get_or}
 use Rattle.memory.proofs.Zeros.{getD_then_zeros}
 use Rattle.image_blocks.specs.Image.{padded}

@@ -1,5 +1,5 @@
 -- The accesses are read off the definitions; those of a transfer's bits by induction on their number.
-use Rattle.std.proofs.Common.{◌≡◌, ℕ, zero, suc, ◌/◌, [], ◌∷◌, ◌++◌, refl, ap, ◌∙◌, append_assoc, append-nil, arith, ne_eqb}
+use Rattle.std.proofs.Common.{◌≡◌, ℕ, zero, suc, ◌/◌, [], ◌∷◌, refl, ap, ◌∙◌, append_assoc, append-nil, arith, ne_eqb}
 use Rattle.bits.specs.Bits.{bit}
 use Rattle.memory.specs.declared.Width.TheVariants.{Word}
 use Rattle.psi.specs.declared.CruBit.{CruBit}

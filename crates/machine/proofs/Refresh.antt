@@ -1,6 +1,6 @@
 -- What one access does to the read register and the decrementer is one case analysis over the PSI's table; the PSI after a microprogram is
 -- that after its accesses, by one induction; the rest is about lists of accesses.
-use Rattle.std.proofs.Common.{◌≡◌, ℕ, ◌-◌, ◌<◌, Bool, true, false, ◌||◌, eqb, ltb, List, [], ◌∷◌, ◌++◌, sym, refl, ap, ◌∙◌, arith, ltb-true, lt-ltb, eq-eqb, ne_eqb, eqb-true}
+use Rattle.std.proofs.Common.{◌≡◌, ℕ, ◌<◌, Bool, true, false, ◌||◌, eqb, ltb, List, [], ◌∷◌, ◌++◌, sym, refl, ap, ◌∙◌, arith, ltb-true, lt-ltb, eq-eqb, ne_eqb, eqb-true}
 use borrow.Author.Tests.{eqb-false}
 use Rattle.bits.specs.Bits.{bit}
 use Rattle.memory.specs.declared.Width.TheVariants.{Word}

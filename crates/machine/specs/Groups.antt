@@ -31,7 +31,7 @@ use Rattle.alu.specs.Status.{equal, overflow, extended, compared, parity, judged
 use Rattle.alu.specs.Sums.{sum, difference, negated, absolute}
 use Rattle.alu.specs.Shifts.{amount, shifted}
 use Rattle.alu.specs.Products.{product, divided}
-use Rattle.machine.specs.State.{Registers, idle, no_sample}
+use Rattle.machine.specs.State.{idle, no_sample}
 use Rattle.machine.specs.Micro.{Micro, done, to_wp, to_pc, to_st, to_flags, ◌>>=◌, ◌>>◌, registers, set, fetched, load, store, sensed, driven}
 use Rattle.machine.specs.Operands.{register_at, register, set_register, operand}
 

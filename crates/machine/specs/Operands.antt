@@ -1,11 +1,10 @@
 -- Registers in memory, and the addresses of general operands. Addresses wrap at 65536.
-use Rattle.std.specs.Prelude.{ℕ, ◌+◌, ◌*◌, ◌%◌, Bool, ◌==◌, nat_eq}
+use Rattle.std.specs.Prelude.{ℕ, ◌+◌, ◌*◌, ◌%◌, ◌==◌, nat_eq}
 use Rattle.bits.specs.Bits.{if◌then◌else◌}
 use Rattle.memory.specs.declared.Width.{Width}
-use Rattle.memory.specs.declared.Width.TheVariants.{Byte, Word}
+use Rattle.memory.specs.declared.Width.TheVariants.{Word}
 use Rattle.memory.specs.Memory.{bytes}
 use Rattle.isa.specs.declared.Operand.{Operand}
-use Rattle.machine.specs.State.{Registers}
 use Rattle.machine.specs.Micro.{Micro, done, ◌>>=◌, ◌>>◌, registers, fetched, load, store}
 
 -- Rn is the word at WP + 2n.

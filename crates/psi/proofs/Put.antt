@@ -1,13 +1,9 @@
 -- Where a has no one that b lacks, there is none either once a bit is put in both: by the recursion of `put`, digit by digit.
-use Prim.Native.Nat.{ℕ, zero, suc, ◌+◌, ◌*◌, ◌/◌, ◌%◌, ◌^◌, ◌<◌}
-use mathlib.Core.Path.{◌≡◌, refl, sym, ap, ◌∙◌}
-use mathlib.Core.Bool.{Bool, true, false, not, ◌&&◌, and-false}
+use Prim.Native.Nat.{ℕ, zero, suc, ◌/◌}
+use mathlib.Core.Path.{◌≡◌, refl}
+use mathlib.Core.Bool.{Bool, true, not, ◌&&◌, and-false}
 use native.Mathlib.Omega.{arith}
-use native.Mathlib.Nat.{div-one, mod-one}
-use native.Mathlib.Numerals.{one-add, add-one}
-use lib.Dec.{eqb}
-use lib.Pow.{shr-shr, mod-pow-add}
-use Rattle.bits.specs.Bits.{one_if, bit, put}
+use Rattle.bits.specs.Bits.{put}
 use Rattle.bits.specs.Logic.{joined, without}
 use Rattle.bits.proofs.Laws.{one_if_below, put_lowest, put_above, put_read, put_others}
 

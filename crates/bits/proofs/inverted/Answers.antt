@@ -1,6 +1,5 @@
 -- `bits::inverted` meets its contract: the code is the definition, 65535 less the word, and nothing wraps.
 use mathlib.Core.Path.{refl}
-use borrow.Author.Rules.{rules}
 use Rattle.bits.specs.Logic.{inverted}
 use Rattle.bits.proofs.inverted.Goals as goal
 

@@ -3,7 +3,6 @@ use native.Mathlib.Omega.{arith}
 use native.Mathlib.Nat.{one-mul, mod-eq_of_lt}
 use lib.Bits.{and_le_l}
 use lib.Pow.{pow-lt, shl_exact}
-use borrow.Author.Rules.{rules}
 use Rattle.bits.proofs.Laws.{one_if_byte, one_if_below, put_by_weight, put_fits}
 use Rattle.bits.proofs.put.Goals as goal
 

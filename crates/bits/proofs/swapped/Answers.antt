@@ -1,6 +1,5 @@
 -- `bits::swapped` meets its contract: the code is the definition, the low byte moved up and the high byte moved down, and nothing wraps.
 use mathlib.Core.Path.{refl}
-use borrow.Author.Rules.{rules}
 use Rattle.bits.specs.Logic.{swapped}
 use Rattle.bits.proofs.swapped.Goals as goal
 

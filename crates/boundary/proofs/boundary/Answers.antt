@@ -2,7 +2,6 @@
 use Rattle.machine.proofs.Bind.{perform_bind, perform_done}
 use Rattle.machine.specs.Step as Step
 use Rattle.machine.specs.Answer as Answer
-use borrow.Author.Rules.{rules}
 use Rattle.boundary.proofs.boundary.Goals as goal
 
 pub returns-in-Reset : goal.returns-in-Reset

@@ -2,7 +2,6 @@
 use Rattle.machine.proofs.Bind.{perform_bind, perform_registers}
 use mathlib.Core.Path.{sym}
 use Rattle.machine.specs.Step as Step
-use borrow.Author.Rules.{rules}
 use Rattle.boundary.proofs.enter.Goals as goal
 
 pub returns : goal.returns

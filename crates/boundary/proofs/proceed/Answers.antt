@@ -2,7 +2,6 @@
 use Rattle.machine.proofs.Bind.{perform_bind, perform_done, perform_registers}
 use Rattle.machine.specs.Step as Step
 use Rattle.machine.specs.Answer as Answer
-use borrow.Author.Rules.{rules}
 use Rattle.boundary.proofs.proceed.Goals as goal
 
 pub returns-then-bit : goal.returns-then-bit

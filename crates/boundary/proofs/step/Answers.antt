@@ -1,7 +1,6 @@
 -- The clock, the code, what is taken of it, and the boundary, in this order.
 use Rattle.machine.proofs.Bind.{perform_bind, perform_registers}
 use Rattle.machine.specs.Step as Step
-use borrow.Author.Rules.{rules}
 use Rattle.boundary.proofs.step.Goals as goal
 
 pub returns : goal.returns

@@ -1,5 +1,4 @@
 -- `field` meets its contract: the test is the definition's.
-use borrow.Author.Rules.{rules}
 use borrow.Author.Tests.{eq-eqb, ne_eqb}
 use Rattle.comparison.specs.Compare.{field}
 use Rattle.comparison.proofs.field.Goals as goal

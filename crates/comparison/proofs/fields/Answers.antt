@@ -1,11 +1,10 @@
 -- `fields` meets its contract: the weights are those of the fields from `k` on.
-use Prim.Native.Nat.{ℕ, suc, ◌+◌, ◌-◌, ◌*◌, ◌<◌, ◌≤◌}
+use Prim.Native.Nat.{ℕ, suc, ◌+◌, ◌-◌, ◌*◌}
 use mathlib.Core.Path.{◌≡◌, refl}
 use mathlib.Core.Bool.{not}
 use native.Mathlib.Omega.{arith}
 use mir.Val.{bool_byte}
 use lib.Dec.{eqb}
-use borrow.Author.Rules.{rules}
 use Rattle.bits.proofs.Laws.{one_if_byte, one_if_below}
 use Rattle.comparison.specs.Compare.{fields_from}
 use Rattle.comparison.proofs.Weights.{fields_below}

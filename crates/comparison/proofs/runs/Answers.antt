@@ -1,13 +1,11 @@
 -- `runs` meets its contract: what is found is what the memories have as far as the blocks before `i` + 1 carry them.
-use Prim.Native.Nat.{ℕ, min, ◌+◌, ◌-◌, ◌*◌, ◌≤◌}
+use Prim.Native.Nat.{ℕ, min, ◌+◌, ◌-◌, ◌*◌}
 use mathlib.Core.Path.{◌≡◌, sym, ◌∙◌}
 use mathlib.Core.List.{List}
 use native.Mathlib.Omega.{arith}
-use borrow.Author.Rules.{rules}
 use lib.ListN.{length, take, length-take}
 use lib.Seq.{take_all, length-take-le}
 use Rattle.differing_runs.specs.Runs.{differences}
-use Rattle.differing_runs.specs.Scan.{Holds}
 use Rattle.differing_runs.proofs.Differences.{differences_length, next_part}
 use Rattle.image_blocks.specs.Image.{memory_of}
 use Rattle.image_blocks.proofs.Parts.{carried_part, memory_length}

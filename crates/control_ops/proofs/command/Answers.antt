@@ -2,7 +2,6 @@
 use Rattle.machine.proofs.Bind.{perform_bind, perform_done, perform_registers}
 use mathlib.Core.Path.{sym}
 use Rattle.machine.specs.Groups.{command}
-use borrow.Author.Rules.{rules}
 use Rattle.control_ops.proofs.command.Goals as goal
 
 pub returns-in-Idle : goal.returns-in-Idle

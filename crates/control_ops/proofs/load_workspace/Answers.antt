@@ -1,7 +1,6 @@
 -- A further word is fetched and loaded.
 use Rattle.machine.proofs.Bind.{perform_bind}
 use Rattle.machine.specs.Groups.{load_workspace}
-use borrow.Author.Rules.{rules}
 use Rattle.control_ops.proofs.load_workspace.Goals as goal
 
 pub returns : goal.returns

@@ -1,7 +1,6 @@
 -- The registers are looked at, and ST is stored.
 use Rattle.machine.proofs.Bind.{perform_bind, perform_registers}
 use Rattle.machine.specs.Groups.{store_status}
-use borrow.Author.Rules.{rules}
 use Rattle.control_ops.proofs.store_status.Goals as goal
 
 pub returns : goal.returns

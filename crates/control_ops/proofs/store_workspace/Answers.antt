@@ -1,7 +1,6 @@
 -- The registers are looked at, and WP is stored.
 use Rattle.machine.proofs.Bind.{perform_bind, perform_registers}
 use Rattle.machine.specs.Groups.{store_workspace}
-use borrow.Author.Rules.{rules}
 use Rattle.control_ops.proofs.store_workspace.Goals as goal
 
 pub returns : goal.returns

@@ -1,5 +1,4 @@
 -- A word that is no X is the last, with no call.
-use borrow.Author.Rules.{rules}
 use Rattle.machine.proofs.Bind.{perform_done}
 use Rattle.cpu.specs.Resolve.{resolve}
 use Rattle.cpu.proofs.last_word.Goals as goal

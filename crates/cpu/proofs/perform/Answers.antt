@@ -1,5 +1,4 @@
 -- A word does what the last that X leads to does.
-use borrow.Author.Rules.{rules}
 use Rattle.machine.specs.Execute.{execute}
 use Rattle.machine.proofs.Bind.{perform_bind}
 use Rattle.cpu.proofs.Laws.{resolves}

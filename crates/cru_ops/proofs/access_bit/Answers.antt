@@ -1,7 +1,6 @@
 -- R12, then the access to the bit.
 use Rattle.machine.proofs.Bind.{perform_bind}
 use Rattle.machine.specs.Groups.{access_bit}
-use borrow.Author.Rules.{rules}
 use Rattle.cru_ops.proofs.access_bit.Goals as goal
 
 pub returns : goal.returns

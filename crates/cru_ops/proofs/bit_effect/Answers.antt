@@ -1,7 +1,6 @@
 -- Each arm is the one access of the operation; TB then makes EQ what was read.
 use Rattle.machine.proofs.Bind.{perform_bind}
 use Rattle.machine.specs.Groups.{bit_effect}
-use borrow.Author.Rules.{rules}
 use Rattle.cru_ops.proofs.bit_effect.Goals as goal
 
 pub returns-in-Sbo : goal.returns-in-Sbo

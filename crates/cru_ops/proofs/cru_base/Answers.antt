@@ -1,7 +1,6 @@
 -- R12 is read, and its bit is worked out.
 use Rattle.machine.proofs.Bind.{perform_bind, perform_done}
 use Rattle.machine.specs.Groups.{cru_base}
-use borrow.Author.Rules.{rules}
 use Rattle.cru_ops.proofs.cru_base.Goals as goal
 
 pub returns : goal.returns

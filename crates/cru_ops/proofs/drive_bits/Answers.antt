@@ -1,14 +1,10 @@
 -- The invariant: what is left to drive leads where the whole does.
-use Prim.Native.Nat.{ℕ, suc, ◌-◌}
+use Prim.Native.Nat.{suc, ◌-◌}
 use mathlib.Core.Path.{◌≡◌, refl, ◌∙◌}
-use mathlib.Core.List.{List}
 use native.Mathlib.Omega.{arith}
-use Rattle.machine.specs.State.{at}
-use Rattle.machine.specs.Perform.{perform}
 use Rattle.machine.specs.Groups.{drive_bits}
 use Rattle.machine.proofs.Bind.{perform_done}
 use Rattle.cru_ops.proofs.Transfers.{drive_turn}
-use borrow.Author.Rules.{rules}
 use Rattle.cru_ops.proofs.drive_bits.Goals as goal
 
 pub loop-left-init : goal.loop-left-init

@@ -1,13 +1,9 @@
-use Prim.Native.Nat.{ℕ, suc, ◌-◌}
-use mathlib.Core.Path.{◌≡◌, refl, ◌∙◌}
+use Prim.Native.Nat.{ℕ}
+use mathlib.Core.Path.{◌≡◌}
 use mathlib.Core.List.{List}
-use native.Mathlib.Omega.{arith}
 use Rattle.machine.specs.State.{at}
 use Rattle.machine.specs.Perform.{perform}
 use Rattle.machine.specs.Groups.{drive_bits}
-use Rattle.machine.proofs.Bind.{perform_done}
-use Rattle.cru_ops.proofs.Transfers.{drive_turn}
-use borrow.Author.Rules.{rules}
 use Rattle.cru_ops.proofs.drive_bits.Given as goal
 
 abbrev pub invariant-loop-left : goal.invariant-loop-left

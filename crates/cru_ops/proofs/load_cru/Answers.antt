@@ -2,7 +2,6 @@
 use Rattle.machine.proofs.Bind.{perform_bind}
 use mathlib.Core.Path.{sym}
 use Rattle.machine.specs.Groups.{load_cru}
-use borrow.Author.Rules.{rules}
 use Rattle.cru_ops.proofs.load_cru.Goals as goal
 
 pub returns : goal.returns

@@ -1,12 +1,9 @@
 -- The invariant: the bits found so far, with those that are yet to come above them, are the number that the whole gives.
 use native.Mathlib.Nat.{sub-zero, mul-zero, add-zero}
 use mathlib.Core.Path.{◌≡◌, sym, ◌∙◌}
-use Rattle.cru_ops.proofs.Transfers.{gathered, gathered_none, weighed_below, below_word, sense_turn}
-use Prim.Native.Nat.{ℕ, suc, ◌+◌, ◌-◌, ◌^◌, ◌<◌, ◌≤◌}
-use mathlib.Core.List.{List}
+use Rattle.cru_ops.proofs.Transfers.{gathered_none, weighed_below, below_word, sense_turn}
+use Prim.Native.Nat.{suc, ◌+◌, ◌-◌}
 use native.Mathlib.Omega.{arith}
-use Rattle.machine.specs.State.{at}
-use Rattle.machine.specs.Perform.{perform}
 use Rattle.machine.specs.Groups.{sense_bits}
 use Rattle.machine.proofs.Bind.{perform_done}
 use borrow.Author.Rules.{rules}

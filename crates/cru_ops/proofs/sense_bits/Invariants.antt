@@ -1,14 +1,10 @@
-use native.Mathlib.Nat.{sub-zero, mul-zero, add-zero}
-use mathlib.Core.Path.{◌≡◌, sym, ◌∙◌}
-use Rattle.cru_ops.proofs.Transfers.{gathered, gathered_none, weighed_below, below_word, sense_turn}
-use Prim.Native.Nat.{ℕ, suc, ◌+◌, ◌-◌, ◌^◌, ◌<◌, ◌≤◌}
+use mathlib.Core.Path.{◌≡◌}
+use Rattle.cru_ops.proofs.Transfers.{gathered}
+use Prim.Native.Nat.{ℕ, ◌-◌, ◌^◌, ◌<◌, ◌≤◌}
 use mathlib.Core.List.{List}
-use native.Mathlib.Omega.{arith}
 use Rattle.machine.specs.State.{at}
 use Rattle.machine.specs.Perform.{perform}
 use Rattle.machine.specs.Groups.{sense_bits}
-use Rattle.machine.proofs.Bind.{perform_done}
-use borrow.Author.Rules.{rules}
 use Rattle.cru_ops.proofs.sense_bits.Given as goal
 
 abbrev pub invariant-loop-n : goal.invariant-loop-n

@@ -1,7 +1,6 @@
 -- The address, R12, the bits and the result: the calls in the definition's order.
 use Rattle.machine.proofs.Bind.{perform_bind}
 use Rattle.machine.specs.Groups.{store_cru}
-use borrow.Author.Rules.{rules}
 use Rattle.cru_ops.proofs.store_cru.Goals as goal
 
 pub returns : goal.returns

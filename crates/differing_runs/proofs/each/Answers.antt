@@ -1,14 +1,12 @@
 -- `each` meets its contract: what is found is what the bytes before have and the part's bytes before `i`.
-use Prim.Native.Nat.{ℕ, ◌+◌, ◌-◌, ◌≤◌}
+use Prim.Native.Nat.{ℕ}
 use mathlib.Core.Path.{◌≡◌, sym, ◌∙◌}
 use mathlib.Core.Bool.{Bool}
 use mathlib.Core.List.{List, ◌++◌, append-nil, append_assoc}
 use native.Mathlib.Omega.{arith}
-use borrow.Author.Rules.{rules}
 use lib.ListN.{length, take, length-append}
 use lib.Seq.{take_all, length-take-le}
 use Rattle.differing_runs.specs.Runs.{differences}
-use Rattle.differing_runs.specs.Scan.{Holds}
 use Rattle.differing_runs.proofs.Differences.{one_more, differences_length}
 use Rattle.differing_runs.proofs.each.Goals as goal
 

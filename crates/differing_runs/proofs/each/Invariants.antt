@@ -1,14 +1,10 @@
-use Prim.Native.Nat.{ℕ, ◌+◌, ◌-◌, ◌≤◌}
-use mathlib.Core.Path.{◌≡◌, sym, ◌∙◌}
+use Prim.Native.Nat.{◌+◌, ◌-◌, ◌≤◌}
+use mathlib.Core.Path.{◌≡◌}
 use mathlib.Core.Bool.{Bool}
-use mathlib.Core.List.{List, ◌++◌, append-nil, append_assoc}
-use native.Mathlib.Omega.{arith}
-use borrow.Author.Rules.{rules}
-use lib.ListN.{length, take, length-append}
-use lib.Seq.{take_all, length-take-le}
+use mathlib.Core.List.{List, ◌++◌}
+use lib.ListN.{length, take}
 use Rattle.differing_runs.specs.Runs.{differences}
 use Rattle.differing_runs.specs.Scan.{Holds}
-use Rattle.differing_runs.proofs.Differences.{one_more, differences_length}
 use Rattle.differing_runs.proofs.each.Given as goal
 
 abbrev pub invariant-loop-i : goal.invariant-loop-i

@@ -1,8 +1,6 @@
 -- `noted` meets its contract: an agreeing byte ends a run, a differing one goes on with it or begins one.
 use mathlib.Core.Path.{◌≡◌}
 use mathlib.Core.Bool.{true, false}
-use borrow.Author.Rules.{rules}
-use borrow.Author.Tests.{not-true, not-false}
 use native.Mathlib.Omega.{arith}
 use Rattle.differing_runs.proofs.Laws.{differing}
 use Rattle.differing_runs.proofs.noted.Goals as goal

@@ -1,5 +1,4 @@
 -- `put_run` meets its contract: the test is the definition's.
-use borrow.Author.Rules.{rules}
 use borrow.Author.Tests.{lt-ltb, le-ltb}
 use Rattle.differing_runs.specs.Scan.{put_run}
 use Rattle.differing_runs.proofs.put_run.Goals as goal

@@ -1,12 +1,8 @@
 -- `same` meets its contract: it tells whether none of the bytes before `i` differs.
-use Prim.Native.Nat.{◌-◌, ◌≤◌}
-use mathlib.Core.Path.{◌≡◌, refl, sym, ◌∙◌}
+use mathlib.Core.Path.{refl, sym, ◌∙◌}
 use mathlib.Core.Bool.{and-true, and-false}
-use mathlib.Core.Logic.{⊎_elim}
 use native.Mathlib.Omega.{arith}
-use borrow.Author.Rules.{rules}
 use borrow.Author.Tests.{eq-eqb, ne_eqb}
-use lib.ListN.{length, take}
 use lib.Seq.{take_all}
 use Rattle.differing_runs.specs.Runs.{differences}
 use Rattle.differing_runs.specs.Scan.{none}
@@ -24,7 +20,7 @@ loop-i-preserved c =
     let more = none_more a.first.now a.second.now c.loop-i.i (omega arith) (omega arith) in (
       omega arith,
       elim c.if-first-i.branch [
-        then-first-i w ↦ w.agree-is ∙ sym (more ∙ rw (ne_eqb _ _ w.if-first-i.true, and-false))
+        | then-first-i w ↦ w.agree-is ∙ sym (more ∙ rw (ne_eqb _ _ w.if-first-i.true, and-false))
         | else-first-i w ↦ w.agree-is ∙ c.loop-i.invariant.1 ∙ sym (more ∙ rw (eq-eqb _ _ w.if-first-i.false, and-true))
       ],
     )

@@ -3,7 +3,6 @@ use Prim.Native.Nat.{ℕ, suc, ◌-◌}
 use mathlib.Core.Path.{◌≡◌, sym, ap, ◌∙◌}
 use mathlib.Core.Bool.{false}
 use native.Mathlib.Omega.{arith}
-use borrow.Author.Rules.{rules}
 use lib.ListN.{length, replicate}
 use Rattle.differing_runs.specs.Runs.{differences}
 use Rattle.differing_runs.proofs.Differences.{differences_length, none_differs}

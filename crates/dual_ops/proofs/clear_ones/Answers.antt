@@ -1,7 +1,6 @@
 -- The old value is loaded, and what is left of it is judged and stored.
 use Rattle.machine.proofs.Bind.{perform_bind}
 use Rattle.machine.specs.Groups.{dual_effect}
-use borrow.Author.Rules.{rules}
 use Rattle.dual_ops.proofs.clear_ones.Goals as goal
 
 pub returns : goal.returns

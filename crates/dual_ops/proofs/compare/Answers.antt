@@ -1,7 +1,6 @@
 -- The destination is loaded, and ST becomes what the comparison and the parity make of it.
 use Rattle.machine.proofs.Bind.{perform_bind}
 use Rattle.machine.specs.Groups.{dual_effect}
-use borrow.Author.Rules.{rules}
 use Rattle.dual_ops.proofs.compare.Goals as goal
 
 pub returns : goal.returns

@@ -1,7 +1,6 @@
 -- The calls in order: the source's address, its value, the destination's address, the operation.
 use Rattle.machine.proofs.Bind.{perform_bind}
 use Rattle.machine.specs.Groups.{dual}
-use borrow.Author.Rules.{rules}
 use Rattle.dual_ops.proofs.dual.Goals as goal
 
 pub returns : goal.returns

@@ -1,6 +1,5 @@
 -- Each arm's call is the definition's clause.
 use Rattle.machine.specs.Groups.{dual_effect}
-use borrow.Author.Rules.{rules}
 use Rattle.dual_ops.proofs.dual_effect.Goals as goal
 
 pub returns-in-Szc : goal.returns-in-Szc

@@ -1,7 +1,6 @@
 -- The old value is loaded, and its ones with the source's are judged and stored.
 use Rattle.machine.proofs.Bind.{perform_bind}
 use Rattle.machine.specs.Groups.{dual_effect}
-use borrow.Author.Rules.{rules}
 use Rattle.dual_ops.proofs.set_ones.Goals as goal
 
 pub returns : goal.returns

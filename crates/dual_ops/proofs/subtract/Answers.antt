@@ -2,7 +2,6 @@
 use mathlib.Core.Path.{sym}
 use Rattle.machine.proofs.Bind.{perform_bind}
 use Rattle.machine.specs.Groups.{dual_effect}
-use borrow.Author.Rules.{rules}
 use Rattle.dual_ops.proofs.subtract.Goals as goal
 
 pub returns : goal.returns

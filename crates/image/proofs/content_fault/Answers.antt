@@ -1,7 +1,6 @@
 -- `content_fault` meets its contract: the tests are the definition's, in its order.
 use Rattle.image.specs.Calls.{content_fault}
-use borrow.Author.Tests.{eq-eqb, ne_eqb, not-true, not-false}
-use borrow.Author.Rules.{rules}
+use borrow.Author.Tests.{eq-eqb, ne_eqb}
 use Rattle.image.proofs.content_fault.Goals as goal
 
 pub returns-then-field-ne-FORMAT : goal.returns-then-field-ne-FORMAT

@@ -1,14 +1,9 @@
-use Prim.Native.Nat.{ℕ, ◌+◌, ◌-◌, ◌*◌, ◌≤◌}
-use mathlib.Core.Path.{◌≡◌, refl, sym, ap, ◌∙◌}
-use mathlib.Core.List.{List, ◌++◌, append-nil}
-use native.Mathlib.Omega.{arith}
-use borrow.Author.Rules.{rules}
-use lib.ListN.{length, take, drop, drop_of_length-le}
-use lib.Seq.{take_all}
+use Prim.Native.Nat.{◌-◌, ◌*◌, ◌≤◌}
+use mathlib.Core.Path.{◌≡◌}
+use mathlib.Core.List.{◌++◌}
+use lib.ListN.{length, take, drop}
 use Rattle.image_blocks.specs.Image as Image
 use Rattle.image_blocks.specs.Image.{image_size}
-use Rattle.image_blocks.proofs.Lists.{grown, grown_length}
-use Rattle.image_blocks.proofs.Written.{image_block, image_length}
 use Rattle.image.proofs.fill_image.Given as goal
 
 abbrev pub invariant-loop-i : goal.invariant-loop-i

@@ -1,10 +1,9 @@
 -- `fill_memory` meets its contract: the lent bytes are the image's memory as far as the blocks before `i` + 1 carry it.
-use Prim.Native.Nat.{ℕ, min, ◌+◌, ◌-◌, ◌*◌, ◌≤◌}
+use Prim.Native.Nat.{ℕ, min, ◌*◌}
 use mathlib.Core.Path.{◌≡◌, refl, ap, ◌∙◌}
-use mathlib.Core.List.{List, ◌++◌, append-nil}
+use mathlib.Core.List.{List, append-nil}
 use native.Mathlib.Omega.{arith}
-use borrow.Author.Rules.{rules}
-use lib.ListN.{length, take, drop, drop_of_length-le}
+use lib.ListN.{length, drop_of_length-le}
 use lib.Seq.{take_all}
 use Rattle.image_blocks.specs.Image.{memory_of}
 use Rattle.image_blocks.proofs.Lists.{grown, grown_length}

@@ -1,13 +1,8 @@
-use Prim.Native.Nat.{ℕ, min, ◌+◌, ◌-◌, ◌*◌, ◌≤◌}
-use mathlib.Core.Path.{◌≡◌, refl, ap, ◌∙◌}
-use mathlib.Core.List.{List, ◌++◌, append-nil}
-use native.Mathlib.Omega.{arith}
-use borrow.Author.Rules.{rules}
-use lib.ListN.{length, take, drop, drop_of_length-le}
-use lib.Seq.{take_all}
+use Prim.Native.Nat.{min, ◌-◌, ◌*◌, ◌≤◌}
+use mathlib.Core.Path.{◌≡◌}
+use mathlib.Core.List.{◌++◌}
+use lib.ListN.{length, take, drop}
 use Rattle.image_blocks.specs.Image.{memory_of}
-use Rattle.image_blocks.proofs.Lists.{grown, grown_length}
-use Rattle.image_blocks.proofs.Parts.{carried_part, memory_length}
 use Rattle.image.proofs.fill_memory.Given as goal
 
 abbrev pub invariant-loop-i : goal.invariant-loop-i

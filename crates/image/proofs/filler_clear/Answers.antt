@@ -7,8 +7,6 @@ use native.Mathlib.Omega.{arith}
 use Rattle.image_blocks.specs.Image.{image_size, fields_in, filler_of, zeros}
 use Rattle.image_blocks.proofs.Parts.{fields_most, filler_lies, zeros_append}
 use lib.ListN.{length, take, drop}
-use borrow.Author.Tests.{not-true, not-false}
-use borrow.Author.Rules.{rules}
 use Rattle.image.proofs.filler_clear.Goals as goal
 
 -- both parts, the first from where the edition's fields end

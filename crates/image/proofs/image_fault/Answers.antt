@@ -1,7 +1,6 @@
 -- `image_fault` meets its contract: the tests are the definition's, in its order.
 use Rattle.image.specs.Calls.{image_fault}
 use borrow.Author.Tests.{eq-eqb, ne_eqb}
-use borrow.Author.Rules.{rules}
 use Rattle.image.proofs.image_fault.Goals as goal
 
 pub returns-then-image-ne-IMAGE_SIZE : goal.returns-then-image-ne-IMAGE_SIZE

@@ -1,7 +1,6 @@
 -- `read_fault` meets its contract: the tests are the definition's, in its order.
 use Rattle.image.specs.Calls.{read_fault}
 use borrow.Author.Tests.{eq-eqb, ne_eqb}
-use borrow.Author.Rules.{rules}
 use Rattle.image.proofs.read_fault.Goals as goal
 
 pub returns-then-bytes-ne-SIZE : goal.returns-then-bytes-ne-SIZE

@@ -4,7 +4,6 @@ use Rattle.image.specs.declared.Fault.{Fault}
 use Rattle.image.specs.Calls.{read}
 use Rattle.image.proofs.Accepted.{accepted}
 use borrow.Author.Tests.{eq-eqb, ne_eqb}
-use borrow.Author.Rules.{rules}
 use Rattle.image.proofs.read_image.Goals as goal
 
 pub returns-then-found-ne0 : goal.returns-then-found-ne0

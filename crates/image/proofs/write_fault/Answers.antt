@@ -1,7 +1,6 @@
 -- `write_fault` meets its contract: the tests are the definition's, in its order.
 use Rattle.image.specs.Calls.{write_fault}
-use borrow.Author.Tests.{eq-eqb, ne_eqb, not-true, not-false}
-use borrow.Author.Rules.{rules}
+use borrow.Author.Tests.{eq-eqb, ne_eqb}
 use Rattle.image.proofs.write_fault.Goals as goal
 
 pub returns-then-lent-ne-SIZE : goal.returns-then-lent-ne-SIZE

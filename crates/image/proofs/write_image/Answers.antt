@@ -3,7 +3,6 @@ use mathlib.Core.Path.{sym, ◌∙◌}
 use Rattle.image.specs.Calls.{write}
 use Rattle.image.proofs.Accepted.{writable}
 use borrow.Author.Tests.{eq-eqb, ne_eqb}
-use borrow.Author.Rules.{rules}
 use Rattle.image.proofs.write_image.Goals as goal
 
 pub returns-then-refusal-ne0 : goal.returns-then-refusal-ne0

@@ -1,5 +1,5 @@
 -- `block` meets its contract: number and content are the definition's, and the check word is that of both.
-use Rattle.std.proofs.Common.{◌≡◌, suc, ◌-◌, arith, rules}
+use Rattle.std.proofs.Common.{◌≡◌, suc, ◌-◌, arith}
 use Rattle.image_blocks.specs.Image.{block}
 use Rattle.image_blocks.proofs.Written.{unchecked_body}
 use Rattle.image_blocks.proofs.block.Goals as goal

@@ -1,6 +1,6 @@
 -- `block_fault` meets its contract: the tests are the definition's, on the block's bytes where they lie in the image.
-use Rattle.std.proofs.Common.{◌≡◌, ℕ, ◌+◌, ◌-◌, ◌*◌, ◌%◌, List, take, drop, sym, ◌∙◌, arith, rules, eq-eqb, ne_eqb}
-use Rattle.image_blocks.specs.Image.{block_of, words_sum, word_at}
+use Rattle.std.proofs.Common.{◌≡◌, ℕ, ◌+◌, ◌-◌, ◌*◌, ◌%◌, List, take, drop, sym, ◌∙◌, arith, eq-eqb, ne_eqb}
+use Rattle.image_blocks.specs.Image.{block_of, words_sum}
 use Rattle.image_blocks.specs.Image.{block_fault}
 use Rattle.image_blocks.proofs.Parts.{block_word}
 use Rattle.image_blocks.proofs.block_fault.Goals as goal

@@ -1,5 +1,5 @@
 -- `checked` meets its contract: the check word goes over the last two bytes.
-use Rattle.std.proofs.Common.{◌-◌, sym, arith, length-take-le, rules}
+use Rattle.std.proofs.Common.{◌-◌, sym, arith, length-take-le}
 use Rattle.image_blocks.specs.Image.{checked}
 use Rattle.image_blocks.proofs.Parts.{put_last}
 use Rattle.image_blocks.proofs.checked.Goals as goal

@@ -1,5 +1,5 @@
 -- `field` meets its contract: block 0's content begins at the image's third byte.
-use Rattle.std.proofs.Common.{sym, ◌∙◌, arith, rules}
+use Rattle.std.proofs.Common.{sym, ◌∙◌, arith}
 use Rattle.image_blocks.proofs.Parts.{field_at}
 use Rattle.image_blocks.proofs.field.Goals as goal
 

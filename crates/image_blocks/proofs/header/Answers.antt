@@ -1,6 +1,6 @@
 -- `header` meets its contract: fifteen fields put into 512 zeros, which computes to the definition's bytes;
 -- a word's bytes are those of its number modulo 65536.
-use Rattle.std.proofs.Common.{◌≡◌, ℕ, ◌/◌, ◌%◌, List, replicate, refl, arith, rules}
+use Rattle.std.proofs.Common.{◌≡◌, ℕ, ◌/◌, ◌%◌, List, replicate, refl, arith}
 use Rattle.machine.specs.declared.State.{State}
 use Rattle.image_blocks.specs.Image.{block_size, format, edition, content, padded, words_bytes, fields}
 use Rattle.image_blocks.specs.Blocks.{put_word, unchecked}

@@ -1,6 +1,5 @@
 -- `is_first` meets its contract: it makes the definition's test on the same field.
 use Rattle.image_blocks.specs.Image.{is_first}
-use Rattle.std.proofs.Common.{rules}
 use Rattle.image_blocks.proofs.is_first.Goals as goal
 
 pub returns : goal.returns

@@ -1,6 +1,5 @@
 -- `psi_of` meets its contract: the blank PSI's fields are all replaced, by the definition's eight.
 use Rattle.image_blocks.specs.Image.{psi_of}
-use Rattle.std.proofs.Common.{rules}
 use Rattle.image_blocks.proofs.psi_of.Goals as goal
 
 pub returns : goal.returns

@@ -1,5 +1,5 @@
 -- `put_word` meets its contract: a word's high byte is below 256.
-use Rattle.std.proofs.Common.{◌/◌, ◌<◌, mod-eq_of_lt, arith, rules}
+use Rattle.std.proofs.Common.{◌/◌, ◌<◌, mod-eq_of_lt, arith}
 use Rattle.image_blocks.specs.Blocks.{put_word}
 use Rattle.image_blocks.proofs.put_word.Goals as goal
 

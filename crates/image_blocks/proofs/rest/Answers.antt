@@ -1,6 +1,5 @@
 -- `rest` meets its contract: the fields are counted by the definition's test.
 use Rattle.image_blocks.specs.Image.{fields_in}
-use Rattle.std.proofs.Common.{rules}
 use Rattle.image_blocks.proofs.rest.Goals as goal
 
 pub returns-then-is_first : goal.returns-then-is_first

@@ -1,6 +1,5 @@
 -- `rom_of` meets its contract: the definition's test, and either edition's address.
 use Rattle.image_blocks.specs.Image.{rom_of}
-use Rattle.std.proofs.Common.{rules}
 use Rattle.image_blocks.proofs.rom_of.Goals as goal
 
 pub returns-then-is_first : goal.returns-then-is_first

@@ -1,6 +1,5 @@
 -- `state_of` meets its contract: it reads the definition's fields.
 use Rattle.image_blocks.specs.Image.{state_of}
-use Rattle.std.proofs.Common.{rules}
 use Rattle.image_blocks.proofs.state_of.Goals as goal
 
 pub returns : goal.returns

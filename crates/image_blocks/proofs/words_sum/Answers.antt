@@ -1,6 +1,6 @@
 -- `words_sum` meets its contract: 256 times the sum of the pairs so far, the sum of their second bytes and the words after them make the whole sum
 -- modulo 65536. A pair's second byte, times 256 and 256 again, adds nothing there.
-use Rattle.std.proofs.Common.{◌≡◌, ℕ, ◌+◌, ◌-◌, ◌*◌, ◌/◌, ◌%◌, ◌<◌, ◌≤◌, List, length, get_or, drop, arith, length-drop, rules}
+use Rattle.std.proofs.Common.{◌≡◌, ℕ, ◌+◌, ◌*◌, ◌/◌, ◌%◌, ◌<◌, List, get_or, drop, arith, length-drop}
 use Rattle.image_blocks.specs.Image.{words_sum}
 use Rattle.image_blocks.proofs.Words.{sum_pair, sum_none}
 use Rattle.image_blocks.proofs.words_sum.Goals as goal

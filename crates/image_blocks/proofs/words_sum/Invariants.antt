@@ -1,6 +1,5 @@
-use Rattle.std.proofs.Common.{◌≡◌, ℕ, ◌+◌, ◌-◌, ◌*◌, ◌/◌, ◌%◌, ◌<◌, ◌≤◌, List, length, get_or, drop, arith, length-drop, rules}
+use Rattle.std.proofs.Common.{◌≡◌, ◌+◌, ◌-◌, ◌*◌, ◌/◌, ◌%◌, ◌<◌, ◌≤◌, length, drop}
 use Rattle.image_blocks.specs.Image.{words_sum}
-use Rattle.image_blocks.proofs.Words.{sum_pair, sum_none}
 use Rattle.image_blocks.proofs.words_sum.Given as goal
 
 abbrev pub invariant-loop-i : goal.invariant-loop-i

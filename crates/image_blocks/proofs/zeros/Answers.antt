@@ -1,5 +1,5 @@
 -- `zeros` meets its contract: all bytes are 0 if no bit is set before `i` and the bytes from `i` on are 0.
-use Rattle.std.proofs.Common.{◌≡◌, ℕ, zero, suc, ◌+◌, ◌-◌, ◌<◌, ◌≤◌, ◌&&◌, eqb, List, length, get_or, drop, sym, refl, ◌∙◌, arith, drop_of_length-le, drop-cons, rules, ne_eqb}
+use Rattle.std.proofs.Common.{◌≡◌, ℕ, zero, suc, ◌+◌, ◌<◌, ◌≤◌, ◌&&◌, eqb, List, length, get_or, drop, sym, refl, ◌∙◌, arith, drop_of_length-le, drop-cons, ne_eqb}
 use mathlib.Core.Bool.{and_assoc, and-true}
 use lib.Bits.{bit_or, or_add_and, and_le_r}
 use Rattle.image_blocks.specs.Image.{zeros}

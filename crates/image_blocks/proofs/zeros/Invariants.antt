@@ -1,6 +1,4 @@
-use Rattle.std.proofs.Common.{◌≡◌, ℕ, zero, suc, ◌+◌, ◌-◌, ◌<◌, ◌≤◌, ◌&&◌, eqb, List, length, get_or, drop, sym, refl, ◌∙◌, arith, drop_of_length-le, drop-cons, rules, ne_eqb}
-use mathlib.Core.Bool.{and_assoc, and-true}
-use lib.Bits.{bit_or, or_add_and, and_le_r}
+use Rattle.std.proofs.Common.{◌≡◌, ◌-◌, ◌≤◌, ◌&&◌, eqb, length, drop}
 use Rattle.image_blocks.specs.Image.{zeros}
 use Rattle.image_blocks.proofs.zeros.Given as goal
 

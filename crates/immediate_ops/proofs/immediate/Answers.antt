@@ -1,7 +1,6 @@
 -- The calls in order: the register's value, the further word, and the operation where the register is.
 use Rattle.machine.proofs.Bind.{perform_bind, perform_registers}
 use Rattle.machine.specs.Groups.{immediate}
-use borrow.Author.Rules.{rules}
 use Rattle.immediate_ops.proofs.immediate.Goals as goal
 
 pub returns : goal.returns

@@ -1,7 +1,6 @@
 -- Each arm computes its clause's result, and concludes it or sets ST.
 use mathlib.Core.Path.{sym}
 use Rattle.machine.specs.Groups.{immediate_effect}
-use borrow.Author.Rules.{rules}
 use Rattle.immediate_ops.proofs.immediate_effect.Goals as goal
 
 pub returns-in-Li : goal.returns-in-Li

@@ -1,7 +1,6 @@
 -- Nothing is read for LI; the other forms load the register.
 use Rattle.machine.proofs.Bind.{perform_done}
 use Rattle.machine.specs.Groups.{immediate_register}
-use borrow.Author.Rules.{rules}
 use Rattle.immediate_ops.proofs.immediate_register.Goals as goal
 
 pub returns-in-Li : goal.returns-in-Li

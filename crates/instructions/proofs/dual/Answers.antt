@@ -1,5 +1,4 @@
 -- The fields are the definition's, and the call is its microprogram.
-use borrow.Author.Rules.{rules}
 use Rattle.isa.specs.Isa as Isa
 use Rattle.machine.specs.Execute.{instruction}
 use Rattle.instructions.proofs.Laws.{ends}

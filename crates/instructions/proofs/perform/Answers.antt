@@ -1,5 +1,4 @@
 -- Each test leaves the range that the definition has there, and each range has its own function.
-use borrow.Author.Rules.{rules}
 use Rattle.isa.proofs.Ranges.{from_4000, from_2000, from_1000, from_0800, from_0400, from_0200, from_0}
 use Rattle.machine.proofs.Bind.{perform_done}
 use Rattle.machine.specs.Execute.{instruction}

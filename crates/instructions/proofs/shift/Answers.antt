@@ -1,5 +1,4 @@
 -- The test is the definition's; the call is its microprogram.
-use borrow.Author.Rules.{rules}
 use borrow.Author.Tests.{lt-ltb, le-ltb}
 use Rattle.machine.proofs.Bind.{perform_done}
 use Rattle.isa.specs.Isa as Isa

@@ -1,5 +1,4 @@
 -- The test and the match's keys are the definition's tests; X is as with no allowance left.
-use borrow.Author.Rules.{rules}
 use borrow.Author.Tests.{lt-ltb, le-ltb, ne_eqb}
 use Rattle.machine.proofs.Bind.{perform_done}
 use Rattle.isa.specs.Isa as Isa

@@ -1,5 +1,4 @@
 -- The test is the definition's; each call is its microprogram.
-use borrow.Author.Rules.{rules}
 use borrow.Author.Tests.{lt-ltb, le-ltb}
 use Rattle.isa.specs.Isa as Isa
 use Rattle.machine.specs.Execute.{instruction}

@@ -1,5 +1,4 @@
 -- XOP, the transfers and the rest are told apart as the definition does it; each call is its microprogram.
-use borrow.Author.Rules.{rules}
 use borrow.Author.Tests.{eq-eqb}
 use Rattle.isa.specs.Isa as Isa
 use Rattle.machine.specs.Execute.{instruction}

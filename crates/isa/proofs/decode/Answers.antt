@@ -1,5 +1,4 @@
 -- `isa::decode` meets its contract: each test leaves the range that the definition has there.
-use Rattle.std.proofs.Common.{rules}
 use Rattle.isa.proofs.Ranges.{from_4000, from_2000, from_1000, from_0800, from_0400, from_0200, from_0}
 use Rattle.isa.proofs.decode.Goals as goal
 

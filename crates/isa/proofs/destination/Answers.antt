@@ -1,5 +1,4 @@
 -- `isa::destination` meets its contract: it is the source of the word less its low six bits.
-use Rattle.std.proofs.Common.{rules}
 use Rattle.isa.specs.Isa.{destination}
 use Rattle.isa.proofs.destination.Goals as goal
 

@@ -1,5 +1,4 @@
 -- `isa::dual` meets its contract: each field is what the call that makes it ensures.
-use Rattle.std.proofs.Common.{rules}
 use Rattle.isa.specs.Isa.{dual}
 use Rattle.isa.proofs.dual.Goals as goal
 

@@ -1,5 +1,5 @@
 -- `isa::further_words` meets its contract: each arm of the match is a clause of the definition, and two operands take at most two words.
-use Rattle.std.proofs.Common.{arith, rules}
+use Rattle.std.proofs.Common.{arith}
 use Rattle.isa.proofs.Laws.{operand_words_at_most}
 use Rattle.isa.specs.Isa.{further_words}
 use Rattle.isa.proofs.further_words.Goals as goal

@@ -1,5 +1,5 @@
 -- `isa::immediate` meets its contract: the code's test and the match's keys are the definition's tests.
-use Rattle.std.proofs.Common.{rules, le-ltb, lt-ltb, ne_eqb}
+use Rattle.std.proofs.Common.{le-ltb, lt-ltb, ne_eqb}
 use Rattle.isa.specs.Isa.{immediate}
 use Rattle.isa.proofs.immediate.Goals as goal
 

@@ -1,5 +1,5 @@
 -- `isa::shift` meets its contract: the code's test is the definition's.
-use Rattle.std.proofs.Common.{rules, le-ltb, lt-ltb}
+use Rattle.std.proofs.Common.{le-ltb, lt-ltb}
 use Rattle.isa.specs.Isa.{shift}
 use Rattle.isa.proofs.shift.Goals as goal
 

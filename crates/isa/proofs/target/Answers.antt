@@ -1,7 +1,7 @@
 -- Sums and differences that wrap; a displacement from 80h on counts 100h words back.
 use Rattle.bits.specs.Bits.{signed_byte}
 use Rattle.isa.specs.Isa.{target}
-use Rattle.std.proofs.Common.{arith, rules, le-ltb, lt-ltb}
+use Rattle.std.proofs.Common.{arith, le-ltb, lt-ltb}
 use Rattle.isa.proofs.target.Goals as goal
 
 pub returns-then-displacement-lt128 : goal.returns-then-displacement-lt128

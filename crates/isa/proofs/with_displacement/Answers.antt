@@ -1,5 +1,5 @@
 -- `isa::with_displacement` meets its contract: the code's test is the definition's.
-use Rattle.std.proofs.Common.{rules, le-ltb, lt-ltb}
+use Rattle.std.proofs.Common.{le-ltb, lt-ltb}
 use Rattle.isa.specs.Isa.{with_displacement}
 use Rattle.isa.proofs.with_displacement.Goals as goal
 

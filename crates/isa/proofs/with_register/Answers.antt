@@ -1,5 +1,5 @@
 -- `isa::with_register` meets its contract: the match's keys are the definition's tests.
-use Rattle.std.proofs.Common.{rules, ne_eqb}
+use Rattle.std.proofs.Common.{ne_eqb}
 use Rattle.isa.specs.Isa.{with_register}
 use Rattle.isa.proofs.with_register.Goals as goal
 

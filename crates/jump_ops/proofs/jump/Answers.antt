@@ -1,7 +1,6 @@
 -- The condition is the definition's, and so is the target.
 use Rattle.machine.proofs.Bind.{perform_bind, perform_done, perform_registers}
 use Rattle.machine.specs.Groups.{jump}
-use borrow.Author.Rules.{rules}
 use Rattle.jump_ops.proofs.jump.Goals as goal
 
 pub returns-then-jumps : goal.returns-then-jumps

@@ -1,5 +1,5 @@
 -- Four digits behind no text.
-use Rattle.std.proofs.Common.{arith, rules}
+use Rattle.std.proofs.Common.{arith}
 use Rattle.text.proofs.Laws.{empty_room}
 use Rattle.listing.proofs.address_alone.Goals as goal
 

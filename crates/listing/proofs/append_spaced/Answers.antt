@@ -1,5 +1,5 @@
 -- A space, then four digits.
-use Rattle.std.proofs.Common.{append-nil, arith, rules}
+use Rattle.std.proofs.Common.{append-nil, arith}
 use Rattle.text.specs.Texts.{ascii, hex}
 use Rattle.text.proofs.Laws.{hex_length}
 use Rattle.text.proofs.Steps.{next_room, joined}

@@ -1,5 +1,5 @@
 -- The mnemonic's letters, then the operands.
-use Rattle.std.proofs.Common.{arith, rules}
+use Rattle.std.proofs.Common.{arith}
 use Rattle.text.specs.Texts.{ascii}
 use Rattle.text.proofs.Laws.{room_less}
 use Rattle.text.proofs.Steps.{next_room, joined, text_room, text_length, text_content}

@@ -1,5 +1,5 @@
 -- One, two or three words, each behind a space.
-use Rattle.std.proofs.Common.{[], ◌∷◌, arith, length-append, rules}
+use Rattle.std.proofs.Common.{[], ◌∷◌, arith, length-append}
 use Rattle.text.proofs.Steps.{next_room, joined}
 use Rattle.listing.specs.Listing.{used}
 use Rattle.listing.proofs.Longest.{spaced_length}

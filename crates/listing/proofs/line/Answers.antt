@@ -1,5 +1,5 @@
 -- The address, the words, a space, then the instruction, all within the array.
-use Rattle.std.proofs.Common.{arith, length-append, rules}
+use Rattle.std.proofs.Common.{arith, length-append}
 use Rattle.text.specs.Texts.{ascii, empty}
 use Rattle.text.proofs.Laws.{hex_length, empty_room}
 use Rattle.text.proofs.Steps.{next_room, joined}

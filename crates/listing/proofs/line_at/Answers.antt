@@ -1,5 +1,5 @@
 -- The words, their instruction and its notation are those of the definition.
-use Rattle.std.proofs.Common.{arith, rules}
+use Rattle.std.proofs.Common.{arith}
 use Rattle.isa.proofs.Words.{two_further_words}
 use Rattle.listing.specs.Listing.{line_at, line_of, word_count}
 use Rattle.listing.proofs.line_at.Goals as goal

@@ -1,5 +1,5 @@
 -- A refusal leaves the buffer; otherwise the line, of at most 48 bytes, goes over its first bytes.
-use Rattle.std.proofs.Common.{◌≡◌, ◌≤◌, ℕ, List, length, sym, ap, ◌∙◌, arith, rules, eq-eqb, ne_eqb}
+use Rattle.std.proofs.Common.{◌≡◌, ◌≤◌, ℕ, List, length, sym, ◌∙◌, arith, rules, eq-eqb, ne_eqb}
 use lib.Seq.{length-take-le}
 use Rattle.text.specs.Texts.{content, appended, empty}
 use Rattle.text.specs.declared.Text.{Text}

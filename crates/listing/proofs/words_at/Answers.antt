@@ -1,6 +1,5 @@
 -- Each word is loaded from its address.
 use Rattle.listing.specs.Listing.{words_at}
-use Rattle.std.proofs.Common.{rules}
 use Rattle.listing.proofs.words_at.Goals as goal
 
 pub returns : goal.returns

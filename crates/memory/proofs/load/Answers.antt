@@ -1,5 +1,4 @@
 -- `memory::load` meets its contract: at either width the code reads the definition's bytes, the highest first.
-use borrow.Author.Rules.{rules}
 use native.Mathlib.Nat.{zero-add, add-zero, div-one, mul-one}
 use Rattle.memory.specs.Memory.{loaded, number, place}
 use Rattle.memory.proofs.load.Goals as goal

@@ -1,5 +1,4 @@
 -- `memory::place` meets its contract: a byte's address is only taken modulo the size, a word's loses its lowest bit first.
-use borrow.Author.Rules.{rules}
 use native.Mathlib.Nat.{div-one, mul-one}
 use Rattle.memory.specs.Memory.{place}
 use Rattle.memory.proofs.place.Goals as goal

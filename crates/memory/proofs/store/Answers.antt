@@ -1,6 +1,5 @@
 -- `memory::store` meets its contract: at either width the code writes the definition's bytes, the highest first.
 use Prim.Native.Nat.{◌<◌, ◌/◌}
-use borrow.Author.Rules.{rules}
 use native.Mathlib.Nat.{add-zero, div-one, mul-one, mod-eq_of_lt}
 use native.Mathlib.Omega.{arith}
 use lib.ListN.{length-set}

@@ -1,7 +1,6 @@
 -- Each arm has the letters of its name.
 use Rattle.text.specs.Texts.{ascii}
 use Rattle.mnemonics.specs.Spelling.{bit_name}
-use borrow.Author.Rules.{rules}
 use Rattle.mnemonics.proofs.bit_name.Goals as goal
 
 pub returns-in-Sbo : goal.returns-in-Sbo

@@ -1,7 +1,6 @@
 -- Each arm has the letters of its name.
 use Rattle.text.specs.Texts.{ascii}
 use Rattle.mnemonics.specs.Spelling.{immediate_name}
-use borrow.Author.Rules.{rules}
 use Rattle.mnemonics.proofs.immediate_name.Goals as goal
 
 pub returns-in-Li : goal.returns-in-Li

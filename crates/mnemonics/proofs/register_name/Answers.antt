@@ -1,7 +1,6 @@
 -- Each arm has the letters of its name.
 use Rattle.text.specs.Texts.{ascii}
 use Rattle.mnemonics.specs.Spelling.{register_name}
-use borrow.Author.Rules.{rules}
 use Rattle.mnemonics.proofs.register_name.Goals as goal
 
 pub returns-in-Coc : goal.returns-in-Coc

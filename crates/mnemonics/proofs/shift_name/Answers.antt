@@ -1,7 +1,6 @@
 -- Each arm has the letters of its name.
 use Rattle.text.specs.Texts.{ascii}
 use Rattle.mnemonics.specs.Spelling.{shift_name}
-use borrow.Author.Rules.{rules}
 use Rattle.mnemonics.proofs.shift_name.Goals as goal
 
 pub returns-in-Sra : goal.returns-in-Sra

@@ -1,5 +1,5 @@
 -- The test is the definition's.
-use Rattle.std.proofs.Common.{rules, eq-eqb, ne_eqb}
+use Rattle.std.proofs.Common.{eq-eqb, ne_eqb}
 use Rattle.notation.specs.Forms.{behind}
 use Rattle.notation.proofs.behind.Goals as goal
 

@@ -1,6 +1,5 @@
 -- Each arm of the match is a clause of the definition.
 use Rattle.notation.specs.Forms.{notation_of}
-use Rattle.std.proofs.Common.{rules}
 use Rattle.notation.proofs.notation_of.Goals as goal
 
 pub returns-in-Dual : goal.returns-in-Dual

@@ -2,7 +2,7 @@
 -- them, and for *Rn+ that word plus the operand's bytes stored back.
 use Rattle.machine.proofs.Bind.{perform_bind, perform_done, perform_registers}
 use Rattle.machine.specs.Operands.{stepped, operand}
-use Rattle.std.proofs.Common.{rules, eq-eqb, ne_eqb}
+use Rattle.std.proofs.Common.{eq-eqb, ne_eqb}
 use Rattle.operand.proofs.address.Goals as goal
 
 pub returns : goal.returns

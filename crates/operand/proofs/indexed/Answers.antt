@@ -1,7 +1,7 @@
 -- The fetched word, plus the register's where that is not R0: the two calls in order, and a sum that wraps as the definition's does.
 use Rattle.machine.proofs.Bind.{perform_bind, perform_done}
 use Rattle.machine.specs.Operands.{indexed}
-use Rattle.std.proofs.Common.{◌<◌, add-zero, mod-eq_of_lt, arith, rules, eq-eqb, ne_eqb}
+use Rattle.std.proofs.Common.{◌<◌, add-zero, mod-eq_of_lt, arith, eq-eqb, ne_eqb}
 use Rattle.operand.proofs.indexed.Goals as goal
 
 pub returns-then-n-eq0 : goal.returns-then-n-eq0

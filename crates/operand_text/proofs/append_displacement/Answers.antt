@@ -7,7 +7,6 @@ use Rattle.text.proofs.Laws.{decimal_length, room_less}
 use Rattle.text.proofs.Steps.{next_room, joined}
 use Rattle.operand_text.specs.Kinds.{displacement}
 use Rattle.operand_text.proofs.Lengths.{displacement_length}
-use borrow.Author.Rules.{rules}
 use Rattle.operand_text.proofs.append_displacement.Goals as goal
 
 pub append_decimal-requires : goal.append_decimal-requires

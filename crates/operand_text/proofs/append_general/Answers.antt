@@ -6,7 +6,6 @@ use Rattle.text.specs.Texts.{ascii}
 use Rattle.text.proofs.Steps.{next_room, joined}
 use Rattle.operand_text.specs.Kinds.{general}
 use Rattle.operand_text.proofs.Lengths.{word_length}
-use borrow.Author.Rules.{rules}
 use Rattle.operand_text.proofs.append_general.Goals as goal
 
 pub append_register-requires-in-1 : goal.append_register-requires-in-1

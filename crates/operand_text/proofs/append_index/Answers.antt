@@ -6,7 +6,6 @@ use Rattle.text.specs.Texts.{ascii}
 use Rattle.text.proofs.Steps.{next_room, joined, nothing_appended}
 use Rattle.operand_text.specs.Kinds.{index}
 use Rattle.operand_text.proofs.Lengths.{index_length}
-use borrow.Author.Rules.{rules}
 use Rattle.operand_text.proofs.append_index.Goals as goal
 
 pub returns-then-register-eq0 : goal.returns-then-register-eq0

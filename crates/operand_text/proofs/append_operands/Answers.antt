@@ -4,7 +4,6 @@ use lib.ListN.{length-append}
 use Rattle.text.specs.Texts.{ascii}
 use Rattle.text.proofs.Steps.{next_room, joined, nothing_appended}
 use Rattle.operand_text.specs.Kinds.{operands}
-use borrow.Author.Rules.{rules}
 use Rattle.operand_text.proofs.append_operands.Goals as goal
 
 pub append_written-requires : goal.append_written-requires

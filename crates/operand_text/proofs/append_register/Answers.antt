@@ -4,7 +4,6 @@ use Rattle.text.specs.Texts.{ascii}
 use Rattle.text.proofs.Steps.{next_room, joined}
 use Rattle.operand_text.specs.Kinds.{register}
 use Rattle.operand_text.proofs.Lengths.{register_length}
-use borrow.Author.Rules.{rules}
 use Rattle.operand_text.proofs.append_register.Goals as goal
 
 pub append_number-requires : goal.append_number-requires

@@ -4,7 +4,6 @@ use Rattle.text.specs.Texts.{ascii}
 use Rattle.text.proofs.Laws.{hex_length}
 use Rattle.text.proofs.Steps.{next_room, joined}
 use Rattle.operand_text.specs.Kinds.{word}
-use borrow.Author.Rules.{rules}
 use Rattle.operand_text.proofs.append_word.Goals as goal
 
 pub append_hex-requires : goal.append_hex-requires

@@ -2,7 +2,6 @@
 use native.Mathlib.Omega.{arith}
 use Rattle.operand_text.specs.Kinds.{written}
 use Rattle.operand_text.proofs.Lengths.{word_length}
-use borrow.Author.Rules.{rules}
 use Rattle.operand_text.proofs.append_written.Goals as goal
 
 pub returns-in-General : goal.returns-in-General

@@ -1,7 +1,6 @@
 -- The register is loaded, and EQ says whether any of the source's ones is missing in it.
 use Rattle.machine.proofs.Bind.{perform_bind}
 use Rattle.machine.specs.Groups.{register_effect}
-use Rattle.std.proofs.Common.{rules}
 use Rattle.register_ops.proofs.compare_ones.Goals as goal
 
 pub returns : goal.returns

@@ -1,6 +1,6 @@
 -- The high word is loaded and the test is the definition's. Where the quotient fits, the low word follows, OV is cleared, and the
 -- quotient and the remainder are stored in the pair.
-use Rattle.std.proofs.Common.{sym, rules, le-leb}
+use Rattle.std.proofs.Common.{sym, le-leb}
 use borrow.Author.Tests.{lt-leb}
 use Rattle.machine.proofs.Bind.{perform_bind}
 use Rattle.machine.specs.Groups.{divide}

@@ -1,7 +1,6 @@
 -- The register is loaded, and the joined word is judged and stored where the register is.
 use Rattle.machine.proofs.Bind.{perform_bind, perform_registers}
 use Rattle.machine.specs.Groups.{register_effect}
-use Rattle.std.proofs.Common.{rules}
 use Rattle.register_ops.proofs.exclusive_or.Goals as goal
 
 pub returns : goal.returns

@@ -1,7 +1,6 @@
 -- The register is loaded, and the product is stored in its pair.
 use Rattle.machine.proofs.Bind.{perform_bind}
 use Rattle.machine.specs.Groups.{register_effect}
-use Rattle.std.proofs.Common.{rules}
 use Rattle.register_ops.proofs.multiply.Goals as goal
 
 pub returns : goal.returns

@@ -1,6 +1,5 @@
 -- Each arm's call is the definition's clause.
 use Rattle.machine.specs.Groups.{register_effect}
-use Rattle.std.proofs.Common.{rules}
 use Rattle.register_ops.proofs.register_effect.Goals as goal
 
 pub returns-in-Coc : goal.returns-in-Coc

@@ -2,7 +2,6 @@
 use Rattle.machine.proofs.Bind.{perform_bind}
 use Rattle.machine.specs.Groups.{set_pair}
 use Rattle.register_ops.proofs.Wraps.{set_register_wraps}
-use Rattle.std.proofs.Common.{rules}
 use Rattle.register_ops.proofs.set_pair.Goals as goal
 
 pub returns : goal.returns

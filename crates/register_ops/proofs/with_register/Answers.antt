@@ -1,7 +1,6 @@
 -- The calls in order: the source's address, its value, the operation.
 use Rattle.machine.proofs.Bind.{perform_bind}
 use Rattle.machine.specs.Groups.{with_register}
-use Rattle.std.proofs.Common.{rules}
 use Rattle.register_ops.proofs.with_register.Goals as goal
 
 pub returns : goal.returns

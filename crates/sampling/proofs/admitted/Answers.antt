@@ -1,6 +1,5 @@
 -- Each arm is the definition's clause.
 use Rattle.machine.specs.Step as Step
-use borrow.Author.Rules.{rules}
 use Rattle.sampling.proofs.admitted.Goals as goal
 
 pub returns-in-Reset : goal.returns-in-Reset

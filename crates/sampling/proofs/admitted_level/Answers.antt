@@ -1,7 +1,6 @@
 -- The flag's bit and then the mask decide, as in the definition.
 use borrow.Author.Tests.{le-leb, lt-leb}
 use Rattle.machine.specs.Step as Step
-use borrow.Author.Rules.{rules}
 use Rattle.sampling.proofs.admitted_level.Goals as goal
 
 pub returns-then-bit : goal.returns-then-bit

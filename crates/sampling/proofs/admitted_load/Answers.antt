@@ -1,6 +1,5 @@
 -- The flag's bit decides, as in the definition.
 use Rattle.machine.specs.Step as Step
-use borrow.Author.Rules.{rules}
 use Rattle.sampling.proofs.admitted_load.Goals as goal
 
 pub returns-then-bit : goal.returns-then-bit

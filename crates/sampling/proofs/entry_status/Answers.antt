@@ -1,5 +1,4 @@
 -- Each arm is the definition's clause.
-use borrow.Author.Rules.{rules}
 use Rattle.sampling.proofs.entry_status.Goals as goal
 
 pub returns-in-Load : goal.returns-in-Load

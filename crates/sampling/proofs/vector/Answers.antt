@@ -1,5 +1,4 @@
 -- Each arm is the definition's clause.
-use borrow.Author.Rules.{rules}
 use Rattle.sampling.proofs.vector.Goals as goal
 
 pub returns-in-Level : goal.returns-in-Level

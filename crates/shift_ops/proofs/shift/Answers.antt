@@ -2,7 +2,6 @@
 use mathlib.Core.Path.{sym}
 use Rattle.machine.proofs.Bind.{perform_bind, perform_registers}
 use Rattle.machine.specs.Groups.{shift}
-use borrow.Author.Rules.{rules}
 use Rattle.shift_ops.proofs.shift.Goals as goal
 
 pub returns : goal.returns

@@ -2,7 +2,6 @@
 use borrow.Author.Tests.{eq-eqb, ne_eqb}
 use Rattle.machine.proofs.Bind.{perform_done}
 use Rattle.machine.specs.Groups.{shift_count}
-use borrow.Author.Rules.{rules}
 use Rattle.shift_ops.proofs.shift_count.Goals as goal
 
 pub returns-then-count-eq0 : goal.returns-then-count-eq0

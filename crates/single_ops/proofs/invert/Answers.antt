@@ -1,7 +1,6 @@
 -- The old value is loaded, and its inverse is judged and stored.
 use Rattle.machine.proofs.Bind.{perform_bind}
 use Rattle.machine.specs.Groups.{single_effect}
-use Rattle.std.proofs.Common.{rules}
 use Rattle.single_ops.proofs.invert.Goals as goal
 
 pub returns : goal.returns

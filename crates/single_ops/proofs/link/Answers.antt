@@ -1,7 +1,6 @@
 -- The registers are looked at, PC is set and the old PC stored, in this order.
 use Rattle.machine.proofs.Bind.{perform_bind, perform_registers}
 use Rattle.machine.specs.Groups.{single_effect}
-use Rattle.std.proofs.Common.{rules}
 use Rattle.single_ops.proofs.link.Goals as goal
 
 pub returns : goal.returns

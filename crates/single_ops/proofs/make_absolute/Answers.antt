@@ -2,7 +2,6 @@
 use Rattle.alu.specs.Sums.{absolute}
 use Rattle.machine.proofs.Bind.{perform_bind}
 use Rattle.machine.specs.Groups.{single_effect}
-use Rattle.std.proofs.Common.{rules}
 use Rattle.single_ops.proofs.make_absolute.Goals as goal
 
 pub returns : goal.returns

@@ -1,5 +1,5 @@
 -- The old value is loaded, and its negative with its status is concluded.
-use Rattle.std.proofs.Common.{sym, rules}
+use Rattle.std.proofs.Common.{sym}
 use Rattle.machine.proofs.Bind.{perform_bind}
 use Rattle.machine.specs.Groups.{single_effect}
 use Rattle.single_ops.proofs.negate.Goals as goal

@@ -1,7 +1,6 @@
 -- The calls in order: the operand's address, the operation.
 use Rattle.machine.proofs.Bind.{perform_bind}
 use Rattle.machine.specs.Groups.{single}
-use Rattle.std.proofs.Common.{rules}
 use Rattle.single_ops.proofs.single.Goals as goal
 
 pub returns : goal.returns

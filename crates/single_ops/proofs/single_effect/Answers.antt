@@ -1,6 +1,5 @@
 -- Each arm's call is the definition's clause; INC, INCT, DEC and DECT are A's and S's with a fixed source.
 use Rattle.machine.specs.Groups.{dual_effect, single_effect}
-use Rattle.std.proofs.Common.{rules}
 use Rattle.single_ops.proofs.single_effect.Goals as goal
 
 pub returns-in-B : goal.returns-in-B

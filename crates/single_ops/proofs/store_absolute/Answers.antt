@@ -1,5 +1,5 @@
 -- The test on the sign is the definition's, and 0 less a negative operand, wrapped, is its magnitude.
-use Rattle.std.proofs.Common.{◌≡◌, ◌-◌, ◌%◌, arith, rules}
+use Rattle.std.proofs.Common.{◌≡◌, ◌-◌, ◌%◌, arith}
 use Rattle.alu.specs.Sums.{absolute}
 use Rattle.machine.proofs.Bind.{perform_done}
 use Rattle.machine.specs.Groups.{store_absolute}

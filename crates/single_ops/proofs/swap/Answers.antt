@@ -1,7 +1,6 @@
 -- The old value is loaded and stored with its bytes exchanged.
 use Rattle.machine.proofs.Bind.{perform_bind}
 use Rattle.machine.specs.Groups.{single_effect}
-use Rattle.std.proofs.Common.{rules}
 use Rattle.single_ops.proofs.swap.Goals as goal
 
 pub returns : goal.returns

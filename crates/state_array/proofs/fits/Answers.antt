@@ -1,5 +1,5 @@
 -- `fits` meets its contract: the numbers before `i` fit, so the first twelve do if those of them from `i` on do.
-use Prim.Native.Nat.{ℕ, ◌+◌, ◌-◌, ◌<◌, ◌≤◌}
+use Prim.Native.Nat.{ℕ, ◌+◌, ◌<◌, ◌≤◌}
 use mathlib.Core.Path.{◌≡◌, refl, sym, ◌∙◌}
 use mathlib.Core.Bool.{◌&&◌}
 use mathlib.Core.List.{List}
@@ -10,7 +10,6 @@ use lib.Seq.{length-take-le, get_or-take}
 use lib.Dec.{ltb}
 use Rattle.state_array.specs.Arrays.{all_fit, fits}
 use Rattle.state_array.proofs.Below.{next}
-use borrow.Author.Rules.{rules}
 use Rattle.state_array.proofs.fits.Goals as goal
 
 pub loop-i-init : goal.loop-i-init
@@ -30,9 +29,9 @@ returns-then-words-i-gt65535 c =
 
 pub loop-i-preserved : goal.loop-i-preserved
 loop-i-preserved c = (
-      omega arith,
-      c.loop-i.invariant.1 ∙ judged c.args.words c.loop-i.i (omega arith) (omega arith) ∙ rw (lt-ltb (get_or c.args.words c.loop-i.i 0) 65536 (omega arith)),
-    )
+  omega arith,
+  c.loop-i.invariant.1 ∙ judged c.args.words c.loop-i.i (omega arith) (omega arith) ∙ rw (lt-ltb (get_or c.args.words c.loop-i.i 0) 65536 (omega arith)),
+)
 
 pub returns : goal.returns
 unfolding all_fit

@@ -1,11 +1,8 @@
 -- `state_of` meets its contract: where the numbers fit it reads the definition's fields.
-use Prim.Native.Nat.{ℕ, ◌<◌}
 use mathlib.Core.Path.{sym, ◌∙◌}
 use native.Mathlib.Omega.{arith}
-use lib.ListN.{get_or}
 use Rattle.state_array.specs.Arrays.{state_of, held}
 use Rattle.state_array.proofs.Below.{fit_at}
-use borrow.Author.Rules.{rules}
 use Rattle.state_array.proofs.state_of.Goals as goal
 
 pub returns-then-not-fits : goal.returns-then-not-fits

@@ -1,5 +1,4 @@
 -- Each arm is the definition's clause.
-use borrow.Author.Rules.{rules}
 use Rattle.machine.specs.Answer.{missed}
 use Rattle.step_answers.proofs.missed.Goals as goal
 

@@ -1,7 +1,6 @@
 -- Three reads, then three loads, in the definition's order.
 use Rattle.machine.proofs.Bind.{perform_bind}
 use Rattle.machine.specs.Groups.{return}
-use Rattle.std.proofs.Common.{rules}
 use Rattle.switch_ops.proofs.return_from.Goals as goal
 
 pub returns : goal.returns

@@ -1,5 +1,5 @@
 -- Two reads, the new WP, three stores, the new PC and the flags: the calls in the definition's order.
-use Rattle.std.proofs.Common.{◌∙◌, rules}
+use Rattle.std.proofs.Common.{◌∙◌}
 use Rattle.machine.proofs.Bind.{perform_bind, perform_registers}
 use Rattle.machine.specs.Groups.{switch}
 use Rattle.switch_ops.proofs.switch.Goals as goal

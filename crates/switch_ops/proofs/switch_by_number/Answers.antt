@@ -1,5 +1,5 @@
 -- The operand's address, the switch by the number's vector, X, and R11.
-use Rattle.std.proofs.Common.{sym, rules}
+use Rattle.std.proofs.Common.{sym}
 use Rattle.switch_ops.proofs.Vectors.{switch_wraps}
 use Rattle.machine.proofs.Bind.{perform_bind}
 use Rattle.machine.specs.Groups.{switch_by_number}

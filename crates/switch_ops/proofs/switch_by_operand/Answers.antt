@@ -1,7 +1,6 @@
 -- The operand's address, then the switch.
 use Rattle.machine.proofs.Bind.{perform_bind}
 use Rattle.machine.specs.Groups.{switch_by_operand}
-use Rattle.std.proofs.Common.{rules}
 use Rattle.switch_ops.proofs.switch_by_operand.Goals as goal
 
 pub returns : goal.returns

@@ -1,5 +1,5 @@
 -- Sums that wrap: twice the number, twice that, and 40h.
-use Rattle.std.proofs.Common.{◌≡◌, ℕ, ◌+◌, ◌*◌, ◌%◌, arith, rules}
+use Rattle.std.proofs.Common.{◌≡◌, ℕ, ◌+◌, ◌*◌, ◌%◌, arith}
 use Rattle.switch_ops.proofs.xop_vector.Goals as goal
 
 twice : (n : ℕ) → (n % 65536 + n % 65536) % 65536 ≡ 2 * n % 65536

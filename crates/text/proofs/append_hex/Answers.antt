@@ -1,5 +1,4 @@
 -- `append_hex` meets its contract: the four digits go behind the text.
-use borrow.Author.Rules.{rules}
 use Rattle.text.proofs.append_hex.Goals as goal
 
 pub returns : goal.returns

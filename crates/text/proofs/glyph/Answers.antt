@@ -1,7 +1,6 @@
 -- `glyph` meets its contract: digits below 10 and the others.
 use borrow.Author.Tests.{lt-ltb, le-ltb}
 use Rattle.text.specs.Texts.{glyph}
-use borrow.Author.Rules.{rules}
 use Rattle.text.proofs.glyph.Goals as goal
 
 pub returns-then-d-lt10 : goal.returns-then-d-lt10

@@ -1,6 +1,5 @@
 -- `hex` meets its contract: a digit for each four bits.
 use Rattle.text.specs.Texts.{hex}
-use borrow.Author.Rules.{rules}
 use Rattle.text.proofs.hex.Goals as goal
 
 pub returns : goal.returns

@@ -1,7 +1,6 @@
 -- The bytes go behind no text.
 use native.Mathlib.Omega.{arith}
 use Rattle.text.proofs.Laws.{empty_room}
-use borrow.Author.Rules.{rules}
 use Rattle.text.proofs.of.Goals as goal
 
 pub append-requires : goal.append-requires

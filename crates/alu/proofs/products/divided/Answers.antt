@@ -1,6 +1,6 @@
 -- `alu::products::divided` meets its contract: where the divisor exceeds the high word, the quotient is below 65536 and the remainder
 -- below the divisor.
-use Rattle.std.proofs.Common.{◌+◌, ◌*◌, ◌<◌, mod-lt, arith, rules, le-leb}
+use Rattle.std.proofs.Common.{◌+◌, ◌*◌, ◌<◌, mod-lt, arith, le-leb}
 use borrow.Author.Tests.{lt-leb}
 use Rattle.alu.specs.Products.{divided}
 use Rattle.alu.proofs.Laws.{quotient_below}

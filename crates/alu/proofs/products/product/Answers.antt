@@ -1,5 +1,5 @@
 -- `alu::products::product` meets its contract: the product of two numbers of 16 bits has 32, so its upper part has 16.
-use Rattle.std.proofs.Common.{refl, arith, rules}
+use Rattle.std.proofs.Common.{refl, arith}
 use Rattle.alu.specs.Products.{product}
 use Rattle.alu.proofs.Laws.{product_below}
 use Rattle.alu.proofs.products.product.Goals as goal

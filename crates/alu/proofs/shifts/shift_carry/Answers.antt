@@ -1,6 +1,5 @@
 -- `alu::shifts::shift_carry` meets its contract: each arm reads the bit that the definition names.
 use Rattle.alu.specs.Shifts.{shift_carry}
-use Rattle.std.proofs.Common.{rules}
 use Rattle.alu.proofs.shifts.shift_carry.Goals as goal
 
 pub returns-in-Sla : goal.returns-in-Sla

@@ -1,5 +1,5 @@
 -- `alu::shifts::shift_overflow` meets its contract: SLA puts OV, the others leave the status.
-use Rattle.std.proofs.Common.{refl, rules}
+use Rattle.std.proofs.Common.{refl}
 use Rattle.alu.specs.Shifts.{shift_overflow}
 use Rattle.alu.proofs.shifts.shift_overflow.Goals as goal
 

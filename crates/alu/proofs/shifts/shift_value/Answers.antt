@@ -1,5 +1,5 @@
 -- `alu::shifts::shift_value` meets its contract: what is shifted down and what is put above it share no bit, so their sum fits a word.
-use Rattle.std.proofs.Common.{◌≡◌, ◌-◌, ◌*◌, ◌%◌, ◌^◌, arith, pow_pos, rules}
+use Rattle.std.proofs.Common.{◌≡◌, ◌-◌, ◌*◌, ◌%◌, ◌^◌, arith, pow_pos}
 use lib.Bits.{bit_and, and_mask}
 use Rattle.alu.specs.Shifts.{shift_value}
 use Rattle.alu.proofs.Shifting.{room}

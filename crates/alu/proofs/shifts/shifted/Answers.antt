@@ -1,5 +1,5 @@
 -- `alu::shifts::shifted` meets its contract: an amount is 1 to 16, and the parts are put together as the definition does.
-use Rattle.std.proofs.Common.{arith, rules}
+use Rattle.std.proofs.Common.{arith}
 use Rattle.alu.specs.Shifts.{shifted}
 use Rattle.alu.proofs.Shifting.{amount_bounds}
 use Rattle.alu.proofs.shifts.shifted.Goals as goal

@@ -1,5 +1,5 @@
 -- `alu::shifts::sign_changes` meets its contract: the code tests whether the doubled number lies outside the room that is left.
-use Rattle.std.proofs.Common.{arith, rules}
+use Rattle.std.proofs.Common.{arith}
 use Rattle.alu.proofs.Shifting.{changes_is, room}
 use Rattle.alu.proofs.shifts.sign_changes.Goals as goal
 

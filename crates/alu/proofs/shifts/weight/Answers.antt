@@ -1,5 +1,5 @@
 -- `alu::shifts::weight` meets its contract: a weight up to 2^16 is not cut at 32 bits.
-use Rattle.std.proofs.Common.{◌^◌, ◌<◌, ◌≤◌, mod-eq_of_lt, one-mul, arith, pow_mono, rules}
+use Rattle.std.proofs.Common.{◌^◌, ◌<◌, ◌≤◌, mod-eq_of_lt, one-mul, arith, pow_mono}
 use Rattle.alu.proofs.shifts.weight.Goals as goal
 
 pub returns : goal.returns

@@ -1,6 +1,5 @@
 -- `alu::status::carried` meets its contract: the two bits are put as the definition puts them.
 use Rattle.alu.specs.Status.{carried}
-use Rattle.std.proofs.Common.{rules}
 use Rattle.alu.proofs.status.carried.Goals as goal
 
 pub returns : goal.returns

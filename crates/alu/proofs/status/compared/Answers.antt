@@ -1,5 +1,5 @@
 -- `alu::status::compared` meets its contract: the three bits are put as the definition puts them, and the raised numbers have the signed order.
-use Rattle.std.proofs.Common.{refl, rules}
+use Rattle.std.proofs.Common.{refl}
 use Rattle.alu.specs.Status.{compared}
 use Rattle.alu.proofs.Raised.{raised_order}
 use Rattle.alu.proofs.status.compared.Goals as goal

@@ -1,6 +1,5 @@
 -- `alu::status::judged` meets its contract: the comparison with 0, then the parity.
 use Rattle.alu.specs.Status.{judged}
-use Rattle.std.proofs.Common.{rules}
 use Rattle.alu.proofs.status.judged.Goals as goal
 
 pub returns : goal.returns

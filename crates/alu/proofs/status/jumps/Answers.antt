@@ -1,6 +1,5 @@
 -- `alu::status::jumps` meets its contract: each arm reads the bits that the definition reads.
 use Rattle.alu.specs.Status.{jumps}
-use Rattle.std.proofs.Common.{rules}
 use Rattle.alu.proofs.status.jumps.Goals as goal
 
 pub returns-in-Jmp : goal.returns-in-Jmp

@@ -1,6 +1,5 @@
 -- `alu::status::parity` meets its contract: the count of ones is the library's, and a word form puts nothing.
 use Rattle.alu.specs.Status.{parity, is_odd}
-use Rattle.std.proofs.Common.{rules}
 use Rattle.alu.proofs.status.parity.Goals as goal
 
 pub returns-in-Byte : goal.returns-in-Byte

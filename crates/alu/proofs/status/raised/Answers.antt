@@ -1,6 +1,5 @@
 -- `alu::status::raised` meets its contract: each arm is the definition at its width.
 use Rattle.alu.specs.Raised.{raised}
-use Rattle.std.proofs.Common.{rules}
 use Rattle.alu.proofs.status.raised.Goals as goal
 
 pub returns-in-Byte : goal.returns-in-Byte

@@ -1,5 +1,5 @@
 -- `alu::status::reduced` meets its contract: a byte is what is left modulo 256, and every word is below 65536.
-use Rattle.std.proofs.Common.{sym, mod-eq_of_lt, rules}
+use Rattle.std.proofs.Common.{sym, mod-eq_of_lt}
 use Rattle.alu.proofs.status.reduced.Goals as goal
 
 pub returns-in-Byte : goal.returns-in-Byte

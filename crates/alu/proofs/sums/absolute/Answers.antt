@@ -1,5 +1,5 @@
 -- `alu::sums::absolute` meets its contract: the value is the magnitude, and the status judges the operand.
-use Rattle.std.proofs.Common.{refl, rules}
+use Rattle.std.proofs.Common.{refl}
 use Rattle.alu.specs.Sums.{absolute}
 use Rattle.alu.proofs.sums.absolute.Goals as goal
 

@@ -1,5 +1,5 @@
 -- `alu::sums::difference_overflows` meets its contract: the raised numbers tell it, and they are small.
-use Rattle.std.proofs.Common.{arith, rules}
+use Rattle.std.proofs.Common.{arith}
 use Rattle.alu.proofs.Laws.{modulus_bounds, raised_below}
 use Rattle.alu.proofs.Raised.{raised_difference}
 use Rattle.alu.proofs.sums.difference_overflows.Goals as goal

@@ -1,5 +1,5 @@
 -- `alu::sums::magnitude` meets its contract: 0 less a number with the sign, wrapped, is what it lacks to 65536.
-use Rattle.std.proofs.Common.{arith, rules}
+use Rattle.std.proofs.Common.{arith}
 use Rattle.alu.proofs.sums.magnitude.Goals as goal
 
 pub returns-then-bit : goal.returns-then-bit

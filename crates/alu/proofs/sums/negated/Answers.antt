@@ -1,6 +1,5 @@
 -- `alu::sums::negated` meets its contract: it is a difference.
 use Rattle.alu.specs.Sums.{negated}
-use Rattle.std.proofs.Common.{rules}
 use Rattle.alu.proofs.sums.negated.Goals as goal
 
 pub returns : goal.returns

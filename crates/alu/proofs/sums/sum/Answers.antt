@@ -1,6 +1,6 @@
 -- `alu::sums::sum` meets its contract: the wrapped sum reduced to the width is the sum reduced to it, and carry and overflow are
 -- those of the definition.
-use Rattle.std.proofs.Common.{◌+◌, refl, rules}
+use Rattle.std.proofs.Common.{◌+◌, refl}
 use Rattle.alu.specs.Sums.{sum}
 use Rattle.alu.proofs.Laws.{reduced_twice}
 use Rattle.alu.proofs.sums.sum.Goals as goal

@@ -1,5 +1,5 @@
 -- `alu::sums::sum_overflows` meets its contract: the raised numbers tell it, and they are small.
-use Rattle.std.proofs.Common.{arith, rules}
+use Rattle.std.proofs.Common.{arith}
 use Rattle.alu.proofs.Laws.{modulus_bounds, raised_below}
 use Rattle.alu.proofs.Raised.{raised_sum}
 use Rattle.alu.proofs.sums.sum_overflows.Goals as goal

@@ -1,5 +1,4 @@
 -- `Found::agreed` meets its contract: all runs have ended.
-use borrow.Author.Rules.{rules}
 use native.Mathlib.Omega.{arith}
 use Rattle.differing_runs.proofs.Laws.{agreeing}
 use Rattle.differing_runs.proofs.Found.agreed.Goals as goal

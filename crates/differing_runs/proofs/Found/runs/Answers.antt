@@ -1,5 +1,4 @@
 -- `Found::runs` meets its contract: the run that has not ended counts too.
-use borrow.Author.Rules.{rules}
 use native.Mathlib.Omega.{arith}
 use Rattle.differing_runs.proofs.Laws.{all_ended, one_open}
 use Rattle.differing_runs.proofs.Found.runs.Goals as goal

@@ -1,5 +1,4 @@
 -- The PSI's own contract says what it is after the access; the rest stays.
-use Rattle.std.proofs.Common.{rules}
 use Rattle.machine.proofs.State.addressed.Goals as goal
 
 pub returns : goal.returns

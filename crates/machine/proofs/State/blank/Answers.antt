@@ -1,5 +1,4 @@
 -- `State::blank` meets its contract: the PSI is blank by its own contract, and the other fields are 0.
-use Rattle.std.proofs.Common.{rules}
 use Rattle.machine.proofs.State.blank.Goals as goal
 
 pub returns : goal.returns

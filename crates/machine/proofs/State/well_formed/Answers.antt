@@ -1,5 +1,5 @@
 -- Each test decides the definition's test in its place; what is left is the PSI's part.
-use Rattle.std.proofs.Common.{rules, eq-eqb, ne_eqb, le-leb}
+use Rattle.std.proofs.Common.{eq-eqb, ne_eqb, le-leb}
 use borrow.Author.Tests.{lt-leb}
 use Rattle.machine.specs.State.{well_formed}
 use Rattle.machine.proofs.State.well_formed.Goals as goal

@@ -1,7 +1,6 @@
 -- One access of a microprogram: the PSI is what writing the bit leaves.
 use Rattle.machine.specs.Micro as Micro
 use Rattle.machine.specs.Perform.{perform}
-use Rattle.std.proofs.Common.{rules}
 use Rattle.machine.proofs.bus.drive.Goals as goal
 
 pub returns : goal.returns

@@ -1,7 +1,6 @@
 -- One access of a microprogram: the word at PC, PC higher by 2, and the PSI sees the address.
 use Rattle.machine.specs.Micro as Micro
 use Rattle.machine.specs.Perform.{perform}
-use Rattle.std.proofs.Common.{rules}
 use Rattle.machine.proofs.bus.fetch.Goals as goal
 
 pub returns : goal.returns

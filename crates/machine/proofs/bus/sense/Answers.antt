@@ -1,7 +1,6 @@
 -- One access of a microprogram: the value and the PSI are what reading the bit gives.
 use Rattle.machine.specs.Micro as Micro
 use Rattle.machine.specs.Perform.{perform}
-use Rattle.std.proofs.Common.{rules}
 use Rattle.machine.proofs.bus.sense.Goals as goal
 
 pub returns : goal.returns

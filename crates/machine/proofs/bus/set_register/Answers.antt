@@ -2,7 +2,6 @@
 use Rattle.machine.specs.Micro as Micro
 use Rattle.machine.specs.Perform.{perform}
 use Rattle.machine.specs.Operands.{set_register}
-use Rattle.std.proofs.Common.{rules}
 use Rattle.machine.proofs.bus.set_register.Goals as goal
 
 pub returns : goal.returns

@@ -1,5 +1,5 @@
 -- One access of a microprogram: an even number of 16 bits is left as it is.
-use Rattle.std.proofs.Common.{◌*◌, ◌/◌, ◌<◌, mod-eq_of_lt, arith, rules}
+use Rattle.std.proofs.Common.{◌*◌, ◌/◌, ◌<◌, mod-eq_of_lt, arith}
 use Rattle.machine.specs.Micro as Micro
 use Rattle.machine.specs.Perform.{perform}
 use Rattle.machine.proofs.bus.set_wp.Goals as goal

@@ -1,6 +1,6 @@
 -- One access of a microprogram: the test of the place decides whether memory is what the store leaves, or as it was; the PSI sees the
 -- address either way.
-use Rattle.std.proofs.Common.{rules, le-leb}
+use Rattle.std.proofs.Common.{le-leb}
 use borrow.Author.Tests.{lt-leb}
 use Rattle.machine.specs.Micro as Micro
 use Rattle.machine.specs.Perform.{dropped, received, perform}

@@ -1,7 +1,6 @@
 -- The registers are looked at, ST is set and the value is stored, in this order.
 use Rattle.machine.proofs.Bind.{perform_bind, perform_registers}
 use Rattle.machine.specs.Groups.{conclude}
-use Rattle.std.proofs.Common.{rules}
 use Rattle.operand.proofs.results.conclude.Goals as goal
 
 pub returns : goal.returns

@@ -1,7 +1,6 @@
 -- `conclude` with the status that judging the value gives.
 use Rattle.alu.specs.Status.{judged}
 use Rattle.machine.specs.Groups.{conclude_judged}
-use Rattle.std.proofs.Common.{rules}
 use Rattle.operand.proofs.results.conclude_judged.Goals as goal
 
 pub returns : goal.returns

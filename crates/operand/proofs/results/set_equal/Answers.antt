@@ -1,5 +1,5 @@
 -- ST with its bit for EQ made as given.
-use Rattle.std.proofs.Common.{sym, rules}
+use Rattle.std.proofs.Common.{sym}
 use Rattle.machine.specs.Groups.{set_equal}
 use Rattle.operand.proofs.results.set_equal.Goals as goal
 

@@ -1,7 +1,6 @@
 -- The registers are looked at and ST is set.
 use Rattle.machine.proofs.Bind.{perform_bind, perform_registers}
 use Rattle.machine.specs.Groups.{set_status}
-use Rattle.std.proofs.Common.{rules}
 use Rattle.operand.proofs.results.set_status.Goals as goal
 
 pub returns : goal.returns

@@ -3,7 +3,6 @@ use native.Mathlib.Nat.{mod-add-mod, add_assoc}
 use Rattle.bits.specs.Bits.{signed_byte}
 use Rattle.psi.specs.Cru.{beyond, displaced}
 use borrow.Author.Tests.{lt-ltb, le-ltb}
-use borrow.Author.Rules.{rules}
 use Rattle.psi.proofs.CruBit.displaced.Goals as goal
 
 pub returns-then-d-lt128 : goal.returns-then-d-lt128

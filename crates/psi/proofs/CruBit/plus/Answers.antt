@@ -1,6 +1,5 @@
 -- The code is the definition.
 use mathlib.Core.Path.{refl}
-use borrow.Author.Rules.{rules}
 use Rattle.psi.specs.Cru.{beyond}
 use Rattle.psi.proofs.CruBit.plus.Goals as goal
 

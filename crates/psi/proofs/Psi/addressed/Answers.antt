@@ -1,6 +1,5 @@
 -- S0 is the address's bit.
 use Rattle.psi.specs.Cru.{addressed}
-use borrow.Author.Rules.{rules}
 use Rattle.psi.proofs.Psi.addressed.Goals as goal
 
 pub returns : goal.returns

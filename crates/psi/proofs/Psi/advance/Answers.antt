@@ -2,7 +2,6 @@
 use Prim.Native.Nat.{◌/◌}
 use mathlib.Core.Path.{◌≡◌}
 use native.Mathlib.Omega.{arith}
-use borrow.Author.Rules.{rules}
 use Rattle.psi.specs.Clock.{ticks, advanced}
 use Rattle.psi.proofs.Psi.advance.Goals as goal
 

@@ -1,7 +1,6 @@
 -- Where all is quiet there is no request; otherwise the code's test is the definition's.
 use mathlib.Core.Path.{sym, ◌∙◌}
 use borrow.Author.Tests.{eq-eqb, ne_eqb}
-use borrow.Author.Rules.{rules}
 use Rattle.psi.specs.Pins.{code}
 use Rattle.psi.proofs.Quiet.{quiet_meaning}
 use Rattle.psi.proofs.Psi.code.Goals as goal

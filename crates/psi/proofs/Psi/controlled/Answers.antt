@@ -1,6 +1,5 @@
 -- The code tests the written value as the definition does.
 use Rattle.psi.specs.Cru.{controlled}
-use borrow.Author.Rules.{rules}
 use Rattle.psi.proofs.Psi.controlled.Goals as goal
 
 pub returns-then-value : goal.returns-then-value

@@ -7,7 +7,6 @@ use borrow.Author.Tests.{eq-eqb, ne_eqb, lt-ltb, le-ltb}
 use Rattle.bits.specs.Bits.{bit}
 use Rattle.psi.specs.Cru.{cru_select, selected, written, driven}
 use Rattle.psi.proofs.Select.{s0_low, s0_high}
-use borrow.Author.Rules.{rules}
 use Rattle.psi.proofs.Psi.drive.Goals as goal
 
 s0_at_0 : (n : ℕ) → n ≡ 0 → bit cru_select n ≡ false

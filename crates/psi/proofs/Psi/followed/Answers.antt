@@ -1,6 +1,5 @@
 -- The code tests the control bit as the definition does.
 use Rattle.psi.specs.Clock.{followed}
-use borrow.Author.Rules.{rules}
 use Rattle.psi.proofs.Psi.followed.Goals as goal
 
 pub returns-then-control : goal.returns-then-control

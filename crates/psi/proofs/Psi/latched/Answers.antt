@@ -1,6 +1,5 @@
 -- The code is the definition, and the refresh is the PSI's own.
 use Rattle.psi.specs.Cru.{latched}
-use borrow.Author.Rules.{rules}
 use Rattle.psi.proofs.Psi.latched.Goals as goal
 
 pub returns : goal.returns

@@ -3,7 +3,6 @@ use mathlib.Core.Path.{◌≡◌}
 use native.Mathlib.Omega.{arith}
 use borrow.Author.Tests.{eq-eqb, ne_eqb}
 use Rattle.psi.specs.Cru.{masked}
-use borrow.Author.Rules.{rules}
 use Rattle.psi.proofs.Psi.masked.Goals as goal
 
 pub returns-then-n-eq3 : goal.returns-then-n-eq3

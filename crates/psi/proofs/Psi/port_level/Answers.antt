@@ -1,6 +1,5 @@
 -- The port's direction bit is tested as in the definition.
 use Rattle.psi.specs.Pins.{port_level}
-use borrow.Author.Rules.{rules}
 use Rattle.psi.proofs.Psi.port_level.Goals as goal
 
 pub returns-else-bit : goal.returns-else-bit

@@ -1,6 +1,5 @@
 -- The code is the definition.
 use lib.Bits.{and_le_l}
-use borrow.Author.Rules.{rules}
 use Rattle.psi.specs.Quiet.{inactive, quiet}
 use Rattle.psi.proofs.Psi.quiet.Goals as goal
 

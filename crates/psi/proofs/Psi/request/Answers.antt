@@ -1,9 +1,9 @@
 -- The invariant: the search from n on gives what the whole search gives. It may end where no mask bit is left.
-use Prim.Native.Nat.{◌≤◌, ◌<◌, ◌-◌}
-use mathlib.Core.Path.{◌≡◌, ◌∙◌, sym}
+use Prim.Native.Nat.{◌<◌}
+use mathlib.Core.Path.{◌∙◌, sym}
 use native.Mathlib.Omega.{arith}
 use borrow.Author.Rules.{rules}
-use Rattle.psi.specs.Pins.{lowest, request}
+use Rattle.psi.specs.Pins.{request}
 use Rattle.psi.proofs.Search.{below_width, lowest_none, lowest_here, lowest_beyond}
 use Rattle.psi.proofs.Psi.request.Goals as goal
 

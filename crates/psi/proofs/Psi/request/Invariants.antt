@@ -1,9 +1,6 @@
 use Prim.Native.Nat.{◌≤◌, ◌<◌, ◌-◌}
-use mathlib.Core.Path.{◌≡◌, ◌∙◌, sym}
-use native.Mathlib.Omega.{arith}
-use borrow.Author.Rules.{rules}
-use Rattle.psi.specs.Pins.{lowest, request}
-use Rattle.psi.proofs.Search.{below_width, lowest_none, lowest_here, lowest_beyond}
+use mathlib.Core.Path.{◌≡◌}
+use Rattle.psi.specs.Pins.{lowest}
 use Rattle.psi.proofs.Psi.request.Given as goal
 
 abbrev pub invariant-loop-n : goal.invariant-loop-n

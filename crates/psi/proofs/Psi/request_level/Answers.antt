@@ -1,7 +1,6 @@
 -- The code's test is the definition's.
 use borrow.Author.Tests.{lt-ltb, le-ltb}
 use Rattle.psi.specs.Pins.{request_level}
-use borrow.Author.Rules.{rules}
 use Rattle.psi.proofs.Psi.request_level.Goals as goal
 
 pub returns-then-n-lt7 : goal.returns-then-n-lt7

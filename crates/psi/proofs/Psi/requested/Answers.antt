@@ -1,6 +1,5 @@
 -- The mask bit is tested first, as in the definition.
 use Rattle.psi.specs.Pins.{requested}
-use borrow.Author.Rules.{rules}
 use Rattle.psi.proofs.Psi.requested.Goals as goal
 
 pub returns-then-bit : goal.returns-then-bit

@@ -1,6 +1,5 @@
 -- The code tests S0 as the definition does.
 use Rattle.psi.specs.Cru.{selected}
-use borrow.Author.Rules.{rules}
 use Rattle.psi.proofs.Psi.selected.Goals as goal
 
 pub returns-then-s0 : goal.returns-then-s0

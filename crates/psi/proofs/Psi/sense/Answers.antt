@@ -1,7 +1,6 @@
 -- The value is the definition's, and S0 is the number's bit, which is 0 below 16.
 use Rattle.psi.specs.Cru.{selected, sensed}
 use Rattle.psi.proofs.Select.{s0_low}
-use borrow.Author.Rules.{rules}
 use Rattle.psi.proofs.Psi.sense.Goals as goal
 
 pub returns-then-n-lt16 : goal.returns-then-n-lt16

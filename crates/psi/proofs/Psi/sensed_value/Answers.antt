@@ -1,7 +1,6 @@
 -- The code's tests are the definition's, row by row.
 use borrow.Author.Tests.{eq-eqb, ne_eqb, lt-ltb, le-ltb}
 use Rattle.psi.specs.Cru.{sensed_value}
-use borrow.Author.Rules.{rules}
 use Rattle.psi.proofs.Psi.sensed_value.Goals as goal
 
 pub returns-then-control : goal.returns-then-control

@@ -1,5 +1,4 @@
 -- So many ticks at once are the ticks one by one.
-use borrow.Author.Rules.{rules}
 use Rattle.psi.proofs.AtOnce.{ticks_at_once}
 use Rattle.psi.proofs.Psi.ticked.Goals as goal
 

@@ -1,7 +1,6 @@
 -- The code's tests are the definition's.
 use borrow.Author.Tests.{eq-eqb, ne_eqb}
 use Rattle.psi.specs.Cru.{timed}
-use borrow.Author.Rules.{rules}
 use Rattle.psi.proofs.Psi.timed.Goals as goal
 
 pub returns-then-value : goal.returns-then-value

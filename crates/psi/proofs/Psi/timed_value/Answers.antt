@@ -1,7 +1,6 @@
 -- The code's test is the definition's.
 use borrow.Author.Tests.{eq-eqb, ne_eqb}
 use Rattle.psi.specs.Cru.{timed_value}
-use borrow.Author.Rules.{rules}
 use Rattle.psi.proofs.Psi.timed_value.Goals as goal
 
 pub returns-then-n-eq15 : goal.returns-then-n-eq15

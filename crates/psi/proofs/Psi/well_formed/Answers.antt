@@ -1,7 +1,6 @@
 -- The code is the definition with its conjunctions grouped otherwise.
 use mathlib.Core.Bool.{and_assoc}
 use Rattle.psi.specs.Formed.{well_formed}
-use borrow.Author.Rules.{rules}
 use Rattle.psi.proofs.Psi.well_formed.Goals as goal
 
 pub returns : goal.returns

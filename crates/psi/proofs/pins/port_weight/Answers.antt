@@ -1,7 +1,6 @@
 -- The code's test is the definition's.
 use borrow.Author.Tests.{lt-ltb, le-ltb}
 use Rattle.psi.specs.Pins.{port_weight}
-use borrow.Author.Rules.{rules}
 use Rattle.psi.proofs.pins.port_weight.Goals as goal
 
 pub returns-then-p-lt7 : goal.returns-then-p-lt7

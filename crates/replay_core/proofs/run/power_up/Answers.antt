@@ -5,7 +5,6 @@ use mathlib.Core.Path.{sym, ap, ◌∙◌}
 use Rattle.machine.specs.Step as Step
 use Rattle.replay_core.proofs.Runs.{powers, powered}
 use Rattle.machine.proofs.Bind.{perform_bind, perform_done}
-use borrow.Author.Rules.{rules}
 use Rattle.replay_core.proofs.run.power_up.Goals as goal
 
 pub returns-then-number-ne0 : goal.returns-then-number-ne0

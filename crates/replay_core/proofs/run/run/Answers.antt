@@ -4,7 +4,6 @@ use borrow.Author.Tests.{ne_eqb}
 use mathlib.Core.Path.{sym, ◌∙◌}
 use Rattle.run_rules.proofs.Laws.{accepted}
 use Rattle.replay_core.proofs.Runs.{ran_to}
-use borrow.Author.Rules.{rules}
 use Rattle.replay_core.proofs.run.run.Goals as goal
 
 pub returns-then-refusal-ne0 : goal.returns-then-refusal-ne0

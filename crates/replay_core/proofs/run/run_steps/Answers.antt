@@ -1,15 +1,11 @@
 -- Invariant: the run from the start is the steps so far, with their counts and the last of them, and then the run from here.
-use Prim.Native.Nat.{◌-◌, ◌≤◌}
+use Prim.Native.Nat.{◌-◌}
 use mathlib.Core.Path.{◌≡◌, refl, sym, ◌∙◌}
 use native.Mathlib.Nat.{sub-zero, add-zero}
 use native.Mathlib.Omega.{arith}
-use lib.ListN.{length, drop}
-use borrow.Author.Rules.{rules}
 use borrow.Author.Tests.{eq-eqb, ne_eqb}
-use Rattle.memory.specs.Memory.{size}
 use Rattle.machine.specs.State.{at}
 use Rattle.machine.specs.Answer.{latest}
-use Rattle.machine.specs.Run.{runs}
 use Rattle.run_rules.proofs.Laws.{both, both_none, both_later, stopped, none_left, missed_at_most}
 use Rattle.replay_core.proofs.Runs.{goes_on, latest_step}
 use Rattle.replay_core.proofs.run.run_steps.Goals as goal
@@ -42,6 +38,9 @@ loop-done-preserved c =
 
 pub returns : goal.returns
 unfolding both latest
-returns c = record { bytes_value = c.loop-done.invariant.3
+returns c = record {
+  bytes_value = c.loop-done.invariant.3
       ∙ rw (let none : c.args.steps - c.loop-done.done ≡ 0 = omega arith in none, none_left)
-      (simp add-zero); number_value = refl }
+      (simp add-zero);
+  number_value = refl;
+}

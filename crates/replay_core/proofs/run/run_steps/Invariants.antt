@@ -1,16 +1,10 @@
 use Prim.Native.Nat.{◌-◌, ◌≤◌}
-use mathlib.Core.Path.{◌≡◌, refl, sym, ◌∙◌}
-use native.Mathlib.Nat.{sub-zero, add-zero}
-use native.Mathlib.Omega.{arith}
+use mathlib.Core.Path.{◌≡◌}
 use lib.ListN.{length, drop}
-use borrow.Author.Rules.{rules}
-use borrow.Author.Tests.{eq-eqb, ne_eqb}
 use Rattle.memory.specs.Memory.{size}
 use Rattle.machine.specs.State.{at}
-use Rattle.machine.specs.Answer.{latest}
 use Rattle.machine.specs.Run.{runs}
-use Rattle.run_rules.proofs.Laws.{both, both_none, both_later, stopped, none_left, missed_at_most}
-use Rattle.replay_core.proofs.Runs.{goes_on, latest_step}
+use Rattle.run_rules.proofs.Laws.{both}
 use Rattle.replay_core.proofs.run.run_steps.Given as goal
 
 abbrev pub invariant-loop-done : goal.invariant-loop-done

@@ -2,7 +2,6 @@
 use native.Mathlib.Omega.{arith}
 use Rattle.text.specs.Texts.{decimal}
 use Rattle.text.proofs.Laws.{decimal_64, appended_twice, room_after, room_less}
-use borrow.Author.Rules.{rules}
 use Rattle.replay_files.proofs.line.append_count.Goals as goal
 
 pub append_decimal-requires : goal.append_decimal-requires

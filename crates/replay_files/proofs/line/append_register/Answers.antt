@@ -1,7 +1,6 @@
 -- `append_register` meets its contract: two pieces, one behind the other.
 use Rattle.text.specs.Texts.{hex}
 use Rattle.text.proofs.Laws.{appended_twice, room_after}
-use borrow.Author.Rules.{rules}
 use Rattle.replay_files.proofs.line.append_register.Goals as goal
 
 pub append_hex-requires : goal.append_hex-requires

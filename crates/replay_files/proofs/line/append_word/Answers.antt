@@ -4,7 +4,6 @@ use Rattle.text.specs.Texts.{ascii, decimal}
 use Rattle.text.proofs.Laws.{appended_twice, room_after, room_less}
 use Rattle.replay_files.specs.Line.{word}
 use Rattle.replay_files.proofs.Lengths.{level_length}
-use borrow.Author.Rules.{rules}
 use Rattle.replay_files.proofs.line.append_word.Goals as goal
 
 pub append_decimal-requires : goal.append_decimal-requires

@@ -8,7 +8,6 @@ use Rattle.text.specs.declared.Text.{Text}
 use Rattle.text.proofs.Laws.{appended_twice, empty_room}
 use Rattle.replay_files.specs.Line.{counts}
 use Rattle.replay_files.proofs.Lengths.{count_room, counts_length}
-use borrow.Author.Rules.{rules}
 use Rattle.replay_files.proofs.line.counts.Goals as goal
 
 pub append_count-numbered-requires : goal.append_count-numbered-requires

@@ -10,7 +10,6 @@ use Rattle.text.specs.declared.Text.{Text}
 use Rattle.text.proofs.Laws.{appended_twice, room_after, empty_room}
 use Rattle.replay_files.specs.Line.{counts, registers, word, text}
 use Rattle.replay_files.proofs.Lengths.{counts_length, counts_room}
-use borrow.Author.Rules.{rules}
 use Rattle.replay_files.proofs.line.line.Goals as goal
 
 pub registers-halves-requires : goal.registers-halves-requires

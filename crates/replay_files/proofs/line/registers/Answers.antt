@@ -4,7 +4,6 @@ use native.Mathlib.Omega.{arith}
 use Rattle.text.specs.Texts.{ascii, hex}
 use Rattle.text.proofs.Laws.{appended_twice, room_after, room_less}
 use Rattle.replay_files.specs.Line.{registers}
-use borrow.Author.Rules.{rules}
 use Rattle.replay_files.proofs.line.registers.Goals as goal
 
 pub append_register-at_pc-requires : goal.append_register-at_pc-requires

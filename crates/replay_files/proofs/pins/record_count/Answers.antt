@@ -1,7 +1,6 @@
 -- `record_count` meets its contract: the words after the first, as many as are taken.
 use native.Mathlib.Omega.{arith}
 use Rattle.replay_files.proofs.Words.{records_length}
-use borrow.Author.Rules.{rules}
 use Rattle.replay_files.proofs.pins.record_count.Goals as goal
 
 pub returns-then-words-eq0 : goal.returns-then-words-eq0

@@ -1,10 +1,9 @@
 -- `records` meets its contract: each turn puts the next record in its place.
-use Prim.Native.Nat.{ℕ, ◌-◌, ◌/◌, ◌≤◌, min}
+use Prim.Native.Nat.{ℕ}
 use mathlib.Core.Path.{◌≡◌, refl, sym, ◌∙◌}
-use mathlib.Core.List.{List, ◌++◌}
+use mathlib.Core.List.{List}
 use native.Mathlib.Omega.{arith}
-use borrow.Author.Rules.{rules}
-use lib.ListN.{length, get_or, take, drop, replicate, length-replicate}
+use lib.ListN.{length, get_or, replicate, length-replicate}
 use lib.Seq.{take-length}
 use Rattle.replay_files.specs.Pins as Pins
 use Rattle.replay_files.proofs.Words.{records_length, records_at, next_put}

@@ -1,12 +1,8 @@
-use Prim.Native.Nat.{ℕ, ◌-◌, ◌/◌, ◌≤◌, min}
-use mathlib.Core.Path.{◌≡◌, refl, sym, ◌∙◌}
-use mathlib.Core.List.{List, ◌++◌}
-use native.Mathlib.Omega.{arith}
-use borrow.Author.Rules.{rules}
-use lib.ListN.{length, get_or, take, drop, replicate, length-replicate}
-use lib.Seq.{take-length}
+use Prim.Native.Nat.{◌-◌, ◌/◌, ◌≤◌, min}
+use mathlib.Core.Path.{◌≡◌}
+use mathlib.Core.List.{◌++◌}
+use lib.ListN.{length, take, drop, replicate}
 use Rattle.replay_files.specs.Pins as Pins
-use Rattle.replay_files.proofs.Words.{records_length, records_at, next_put}
 use Rattle.replay_files.proofs.pins.records.Given as goal
 
 abbrev pub invariant-loop-i : goal.invariant-loop-i

@@ -2,7 +2,6 @@
 use mathlib.Core.Path.{sym, ◌∙◌}
 use native.Mathlib.Omega.{arith}
 use Rattle.replay_files.proofs.Words.{stop_none, stop_some}
-use borrow.Author.Rules.{rules}
 use Rattle.replay_files.proofs.pins.stop.Goals as goal
 
 pub returns-then-file-lt4 : goal.returns-then-file-lt4

@@ -1,6 +1,5 @@
 -- `tms_compare_images` meets its contract: the call's answer is handed on.
 use Rattle.tms_replay.specs.Exported.{compare}
-use borrow.Author.Rules.{rules}
 use Rattle.tms_replay.proofs.exported.tms_compare_images.Goals as goal
 
 pub returns : goal.returns

@@ -2,7 +2,6 @@
 use native.Mathlib.Omega.{arith}
 use Rattle.listing.proofs.Longest.{answer_short}
 use Rattle.tms_replay.specs.Exported as Exported
-use borrow.Author.Rules.{rules}
 use Rattle.tms_replay.proofs.exported.tms_list.Goals as goal
 
 pub overflow_cast-length : goal.overflow_cast-length

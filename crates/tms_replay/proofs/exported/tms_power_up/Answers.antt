@@ -1,6 +1,5 @@
 -- `tms_power_up` meets its contract: the call's answer is handed on.
 use Rattle.tms_replay.specs.Exported.{power_up}
-use borrow.Author.Rules.{rules}
 use Rattle.tms_replay.proofs.exported.tms_power_up.Goals as goal
 
 pub returns : goal.returns

@@ -1,6 +1,5 @@
 -- `tms_read_image` meets its contract: the call's answer is handed on.
 use Rattle.tms_replay.specs.Exported.{read}
-use borrow.Author.Rules.{rules}
 use Rattle.tms_replay.proofs.exported.tms_read_image.Goals as goal
 
 pub returns : goal.returns

@@ -1,7 +1,6 @@
 -- `tms_run` meets its contract: the call's answer is handed on, and a refusal leaves the array alone.
 use borrow.Author.Tests.{ne_eqb}
 use Rattle.tms_replay.specs.Exported.{run}
-use borrow.Author.Rules.{rules}
 use Rattle.tms_replay.proofs.exported.tms_run.Goals as goal
 
 pub returns-then-answer-ne0 : goal.returns-then-answer-ne0

@@ -1,6 +1,5 @@
 -- `tms_write_image` meets its contract: the call's answer is handed on.
 use Rattle.tms_replay.specs.Exported.{write}
-use borrow.Author.Rules.{rules}
 use Rattle.tms_replay.proofs.exported.tms_write_image.Goals as goal
 
 pub returns : goal.returns
