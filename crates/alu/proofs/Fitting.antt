@@ -1,8 +1,9 @@
 -- Every value is one of its width's and every status is a word: a remainder is below its modulus, and putting a bit below 16 leaves
 -- a word a word.
+use Rattle.std.specs.Prelude.{if◌then◌else◌}
 use Rattle.std.proofs.Common.{ℕ, ◌+◌, ◌-◌, ◌*◌, ◌/◌, ◌%◌, ◌^◌, ◌<◌, ◌≤◌, Bool, true, false, mod-lt, arith, le-leb}
 use borrow.Author.Tests.{lt-leb}
-use Rattle.bits.specs.Bits.{if◌then◌else◌, bit}
+use Rattle.bits.specs.Bits.{bit}
 use Rattle.bits.proofs.Laws.{put_fits}
 use Rattle.memory.specs.declared.Width.TheVariants.{Byte, Word}
 use Rattle.isa.specs.declared.ShiftOp.{ShiftOp}

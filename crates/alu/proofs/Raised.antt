@@ -1,10 +1,10 @@
 -- A signed number is the raised one less half the values. Differences of two numbers are equal where the numbers are moved alike,
 -- so orders and sums of signed numbers are those of the raised ones.
+use Rattle.std.specs.Prelude.{if◌then◌else◌}
 use Rattle.std.proofs.Common.{◌≡◌, ℕ, zero, suc, ◌+◌, ◌-◌, ◌%◌, ◌<◌, ◌≤◌, Bool, ◌||◌, ltb, leb, pos, negsuc, ◌+ℤ◌, neg_ℤ, sym, refl, ap, ◌∙◌, zero-add, arith, le-ltb, lt-ltb, le-leb}
 use lib.IntN.{sub_ℕ}
 use lib.Signed.{lt_z, le_z}
 use borrow.Author.Tests.{lt-leb}
-use Rattle.bits.specs.Bits.{if◌then◌else◌}
 use Rattle.memory.specs.declared.Width.{Width}
 use Rattle.memory.specs.declared.Width.TheVariants.{Byte, Word}
 use Rattle.memory.specs.Memory.{modulus}

@@ -1,10 +1,10 @@
 -- Shifts by at most 16: what is shifted down fits the bits that are left for it, and so does what is put above it. The sign changes
 -- at one of k shifts to the left exactly if twice the number is at least 2^(16-k) and below 2^17 - 2^(16-k): one shift doubles the
 -- number and halves the room, and the first change is where the upper two bits differ.
+use Rattle.std.specs.Prelude.{if◌then◌else◌}
 use Rattle.std.proofs.Common.{◌≡◌, ℕ, zero, suc, ◌+◌, ◌-◌, ◌*◌, ◌/◌, ◌%◌, ◌^◌, ◌<◌, ◌≤◌, Bool, true, false, not, ◌&&◌, ◌||◌, eqb, ltb, leb, sym, refl, ◌∙◌, mod-lt, pow-suc, arith, pow_pos, pow_mono, pow-add, shr_lt, le-ltb, lt-ltb, ne_eqb, le-leb}
 use lib.Arith.{digits_lt}
 use borrow.Author.Tests.{lt-leb}
-use Rattle.bits.specs.Bits.{if◌then◌else◌}
 use Rattle.alu.specs.Shifts.{amount, sign_changes}
 use Rattle.alu.proofs.Laws.{either_side, sign_bit}
 

@@ -1,7 +1,7 @@
 -- What follows from the definitions, each a statement of its own: that results fit, what the status bits say, and the facts that
 -- a programmer of the machine knows.
-use Rattle.std.specs.Prelude.{◌≡◌, ℕ, ◌+◌, ◌-◌, ◌*◌, ◌%◌, ◌^◌, ◌<◌, ◌≤◌, Bool, true, false, not, ◌&&◌, ltb, ◌==◌, int_lt, nat_le, nat_lt}
-use Rattle.bits.specs.Bits.{if◌then◌else◌, bit}
+use Rattle.std.specs.Prelude.{◌≡◌, ℕ, ◌+◌, ◌-◌, ◌*◌, ◌%◌, ◌^◌, ◌<◌, ◌≤◌, Bool, true, false, not, ◌&&◌, ltb, ◌==◌, int_lt, nat_le, nat_lt, if◌then◌else◌}
+use Rattle.bits.specs.Bits.{bit}
 use Rattle.memory.specs.declared.Width.{Width}
 use Rattle.memory.specs.declared.Width.TheVariants.{Byte, Word}
 use Rattle.memory.specs.Memory.{modulus}

@@ -1,6 +1,5 @@
 -- Products and quotients of unsigned words.
-use Rattle.std.specs.Prelude.{ℕ, ◌+◌, ◌*◌, ◌/◌, ◌%◌, nat_le}
-use Rattle.bits.specs.Bits.{if◌then◌else◌}
+use Rattle.std.specs.Prelude.{ℕ, ◌+◌, ◌*◌, ◌/◌, ◌%◌, nat_le, if◌then◌else◌}
 use Rattle.alu.specs.declared.Pair.{Pair}
 
 -- the 32 bits of a product, as two words

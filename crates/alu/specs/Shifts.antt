@@ -1,6 +1,6 @@
 -- Shifts of a word.
-use Rattle.std.specs.Prelude.{ℕ, zero, suc, ◌+◌, ◌-◌, ◌*◌, ◌/◌, ◌%◌, ◌^◌, Bool, false, not, ◌||◌, ◌==◌}
-use Rattle.bits.specs.Bits.{if◌then◌else◌, bit, put}
+use Rattle.std.specs.Prelude.{ℕ, zero, suc, ◌+◌, ◌-◌, ◌*◌, ◌/◌, ◌%◌, ◌^◌, Bool, false, not, ◌||◌, ◌==◌, if◌then◌else◌}
+use Rattle.bits.specs.Bits.{bit, put}
 use Rattle.memory.specs.declared.Width.TheVariants.{Word}
 use Rattle.isa.specs.declared.ShiftOp.{ShiftOp}
 use Rattle.isa.specs.declared.ShiftOp.TheVariants.{Sra, Srl, Sla, Src}

@@ -1,7 +1,7 @@
 -- Status bits: comparison, parity, carry and overflow, and the conditions of the jumps.
-use Rattle.std.specs.Prelude.{ℕ, ◌/◌, ◌%◌, Bool, true, not, ◌&&◌, ◌||◌, ℤ, pos, ◌==◌, count_ones, int_lt, nat_lt}
+use Rattle.std.specs.Prelude.{ℕ, ◌/◌, ◌%◌, Bool, true, not, ◌&&◌, ◌||◌, ℤ, pos, ◌==◌, count_ones, int_lt, nat_lt, if◌then◌else◌}
 use Rattle.std.proofs.Math.IntN.{sub_ℕ}
-use Rattle.bits.specs.Bits.{if◌then◌else◌, bit, put}
+use Rattle.bits.specs.Bits.{bit, put}
 use Rattle.memory.specs.declared.Width.{Width}
 use Rattle.memory.specs.declared.Width.TheVariants.{Byte, Word}
 use Rattle.memory.specs.Memory.{modulus}

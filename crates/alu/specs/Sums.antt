@@ -1,6 +1,6 @@
 -- Sums and differences over a width; carry and overflow are facts about whole numbers.
-use Rattle.std.specs.Prelude.{ℕ, ◌+◌, ◌-◌, ◌%◌, Bool, false, ◌||◌, ℤ, pos, ◌+ℤ◌, ◌-ℤ◌, neg_ℤ, ◌==◌, int_le, int_lt, nat_le}
-use Rattle.bits.specs.Bits.{if◌then◌else◌, bit}
+use Rattle.std.specs.Prelude.{ℕ, ◌+◌, ◌-◌, ◌%◌, Bool, false, ◌||◌, ℤ, pos, ◌+ℤ◌, ◌-ℤ◌, neg_ℤ, ◌==◌, int_le, int_lt, nat_le, if◌then◌else◌}
+use Rattle.bits.specs.Bits.{bit}
 use Rattle.memory.specs.declared.Width.{Width}
 use Rattle.memory.specs.declared.Width.TheVariants.{Word}
 use Rattle.memory.specs.Memory.{modulus}

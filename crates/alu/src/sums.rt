@@ -1,7 +1,6 @@
 // Sums and differences over a width.
-ghost use Rattle.std.specs.Prelude.{◌≡◌, ◌-◌, ◌%◌};
+ghost use Rattle.std.specs.Prelude.{◌≡◌, ◌-◌, ◌%◌, if◌then◌else◌};
 ghost use Rattle.bits.specs.Bits as Bits;
-ghost use Rattle.bits.specs.Bits.{if◌then◌else◌};
 ghost use Rattle.alu.specs.Sums as Sums;
 
 use super::{Outcome, status};

@@ -1,9 +1,9 @@
 -- What a microprogram does to a machine with installed memory and fields of 16 bits, as a statement of its value, the machine
 -- before and after it and the number of words fetched. A steady microprogram may stand in front.
+use Rattle.std.specs.Prelude.{if◌then◌else◌}
 use Prim.Native.Nat.{ℕ, ◌+◌}
 use mathlib.Core.Bool.{Bool, true, false}
 use native.Mathlib.Nat.{add-zero}
-use Rattle.bits.specs.Bits.{if◌then◌else◌}
 use Rattle.memory.specs.Memory.{Installed}
 use Rattle.machine.specs.State.{Machine}
 use Rattle.machine.specs.Micro.{Micro, done, ◌>>=◌}

@@ -1,5 +1,6 @@
 -- What a word's instruction tells is a table, and X tells what the word that it leads to tells, by induction on the allowance. A step puts
 -- this together with what is taken at its boundary. Of a run: by induction on its steps, the last one's answer is handed on.
+use Rattle.std.specs.Prelude.{if◌then◌else◌}
 use Prim.Native.Nat.{ℕ, zero, suc, ◌≤◌}
 use mathlib.Core.Path.{◌≡◌, refl, ap, subst}
 use mathlib.Core.Bool.{Bool, true, false}
@@ -8,7 +9,6 @@ use native.Mathlib.Omega.{arith}
 use native.Mathlib.Decide.{ℕ_discrete}
 use lib.Dec.{eqb}
 use lib.ListN.{length, get_or}
-use Rattle.bits.specs.Bits.{if◌then◌else◌}
 use Rattle.memory.specs.declared.Width.TheVariants.{Word}
 use Rattle.memory.specs.Memory.{loaded}
 use Rattle.psi.specs.Pins.{parted}

@@ -1,5 +1,6 @@
 -- A microprogram followed by another fetches the words of the first and then those of the second; only `fetched` fetches, and
 -- it stands in the indexed operand and in the forms with an immediate word.
+use Rattle.std.specs.Prelude.{if◌then◌else◌}
 use Prim.Native.Nat.{ℕ, zero, suc, ◌+◌}
 use mathlib.Core.Path.{◌≡◌, refl, ap, ◌∙◌, fun_ext}
 use mathlib.Core.Bool.{Bool, true, false}
@@ -7,7 +8,7 @@ use native.Mathlib.Omega.{arith}
 use native.Mathlib.Nat.{zero-add, add-zero}
 use borrow.Author.Tests.{eqb-true}
 use lib.Dec.{eqb, leb}
-use Rattle.bits.specs.Bits.{if◌then◌else◌, bit}
+use Rattle.bits.specs.Bits.{bit}
 use Rattle.memory.specs.declared.Width.{Width}
 use Rattle.memory.specs.declared.Width.TheVariants.{Word}
 use Rattle.psi.specs.declared.CruBit.{CruBit}

@@ -1,6 +1,6 @@
 -- What a step answers, and what a run hands on of it (Q-6).
-use Rattle.std.specs.Prelude.{ℕ, zero, suc, ◌≤◌, ◌≡◌, Bool, true, false, List, [], ◌∷◌, ◌↔◌, get_or}
-use Rattle.bits.specs.Bits.{if◌then◌else◌, bit}
+use Rattle.std.specs.Prelude.{ℕ, zero, suc, ◌≤◌, ◌≡◌, Bool, true, false, List, [], ◌∷◌, ◌↔◌, get_or, if◌then◌else◌}
+use Rattle.bits.specs.Bits.{bit}
 use Rattle.memory.specs.declared.Width.TheVariants.{Word}
 use Rattle.memory.specs.Memory.{loaded}
 use Rattle.psi.specs.Pins.{parted}

@@ -1,6 +1,6 @@
 -- What differs between two images (document 02, Q-8): the call's answer, and the list of runs that it leaves.
-use Rattle.std.specs.Prelude.{ℕ, zero, suc, ◌+◌, ◌*◌, not, List, [], length, eqb}
-use Rattle.bits.specs.Bits.{if◌then◌else◌, one_if}
+use Rattle.std.specs.Prelude.{ℕ, zero, suc, ◌+◌, ◌*◌, not, List, [], length, eqb, if◌then◌else◌}
+use Rattle.bits.specs.Bits.{one_if}
 use Rattle.differing_runs.specs.Runs.{Stretch, differences, runs_of, places}
 use Rattle.image_blocks.specs.Image as Image
 use Rattle.image.specs.declared.Fault.{Fault}

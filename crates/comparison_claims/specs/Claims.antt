@@ -1,6 +1,6 @@
 -- What is claimed of comparing images (document 02, Q-8).
-use Rattle.std.specs.Prelude.{ℕ, ◌*◌, ◌/◌, ◌^◌, ◌≤◌, ◌<◌, ◌≡◌, ◌↔◌, not, List, length, get_or, replicate, eqb}
-use Rattle.bits.specs.Bits.{if◌then◌else◌, one_if, bit}
+use Rattle.std.specs.Prelude.{ℕ, ◌*◌, ◌/◌, ◌^◌, ◌≤◌, ◌<◌, ◌≡◌, ◌↔◌, not, List, length, get_or, replicate, eqb, if◌then◌else◌}
+use Rattle.bits.specs.Bits.{one_if, bit}
 use Rattle.memory.specs.Memory.{size}
 use Rattle.differing_runs.specs.Runs.{Stretch, places}
 use Rattle.differing_runs_claims.specs.Claims.{end, Among}

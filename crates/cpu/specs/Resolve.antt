@@ -1,6 +1,5 @@
 -- Which word a step performs in the end: X leads on to another, so only the last of them is performed.
-use Rattle.std.specs.Prelude.{ℕ, zero, suc, ◌≡◌}
-use Rattle.bits.specs.Bits.{if◌then◌else◌}
+use Rattle.std.specs.Prelude.{ℕ, zero, suc, ◌≡◌, if◌then◌else◌}
 use Rattle.memory.specs.declared.Width.TheVariants.{Word}
 use Rattle.isa.specs.Isa.{source, decoded}
 use Rattle.isa.specs.Words.{is_x}

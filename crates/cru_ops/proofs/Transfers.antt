@@ -1,5 +1,6 @@
 -- One turn of a transfer. A turn of LDCR drives the lowest bit and goes on with the rest; a turn of STCR adds the bit that it read, at
 -- the weight that it has reached, to the bits below it.
+use Rattle.std.specs.Prelude.{if◌then◌else◌}
 use Prim.Native.Nat.{ℕ, suc, ◌+◌, ◌*◌, ◌/◌, ◌%◌, ◌^◌, ◌<◌, ◌≤◌}
 use mathlib.Core.Path.{◌≡◌}
 use mathlib.Core.Bool.{Bool, true, false}
@@ -10,7 +11,7 @@ use native.Mathlib.Nat.{div-one, pow-suc, mul-add, mul_assoc, one-mul, zero-add}
 use lib.Dec.{eqb}
 use lib.Pow.{pow_mono, pow-lt}
 use mir.Val.{bool_byte}
-use Rattle.bits.specs.Bits.{if◌then◌else◌, bit, one_if}
+use Rattle.bits.specs.Bits.{bit, one_if}
 use Rattle.psi.specs.declared.CruBit.{CruBit}
 use Rattle.psi.specs.Cru.{beyond}
 use Rattle.alu.specs.Shifts.{amount}

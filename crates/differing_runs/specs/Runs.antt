@@ -1,6 +1,5 @@
 -- What differs between two memories, byte by byte, and its runs: maximal stretches of differing bytes (document 02, Q-8).
-use Rattle.std.specs.Prelude.{ℕ, suc, ◌+◌, ◌-◌, ◌*◌, Bool, false, not, ◌&&◌, List, [], ◌∷◌, ◌++◌, length, take, replicate, eqb}
-use Rattle.bits.specs.Bits.{if◌then◌else◌}
+use Rattle.std.specs.Prelude.{ℕ, suc, ◌+◌, ◌-◌, ◌*◌, Bool, false, not, ◌&&◌, List, [], ◌∷◌, ◌++◌, length, take, replicate, eqb, if◌then◌else◌}
 
 -- for each byte whether it differs
 unfoldable pub differences : List ℕ → List ℕ → List Bool

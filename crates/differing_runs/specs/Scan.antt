@@ -1,6 +1,5 @@
 -- How the code finds runs: it takes byte after byte, and keeps what it has found in the bytes so far.
-use Rattle.std.specs.Prelude.{ℕ, ◌+◌, ◌*◌, ◌≡◌, Bool, true, false, not, ◌&&◌, List, [], ◌∷◌, ◌++◌, length, replicate, set, ltb}
-use Rattle.bits.specs.Bits.{if◌then◌else◌}
+use Rattle.std.specs.Prelude.{ℕ, ◌+◌, ◌*◌, ◌≡◌, Bool, true, false, not, ◌&&◌, List, [], ◌∷◌, ◌++◌, length, replicate, set, ltb, if◌then◌else◌}
 use Rattle.differing_runs.specs.Runs.{runs_of, listed, places}
 use Rattle.differing_runs.specs.declared.Found.{Found}
 

@@ -1,6 +1,5 @@
 -- A step's answer from its two numbers.
-use Rattle.std.specs.Prelude.{ℕ, ◌≡◌, eqb}
-use Rattle.bits.specs.Bits.{if◌then◌else◌}
+use Rattle.std.specs.Prelude.{ℕ, ◌≡◌, eqb, if◌then◌else◌}
 use Rattle.machine.specs.declared.StepAnswer.{StepAnswer}
 use Rattle.machine.specs.declared.StepAnswer.TheVariants.{Nothing, Reset, Load, Level, Instruction, Idle, Unassigned}
 use Rattle.machine.specs.Answer.{number, value}

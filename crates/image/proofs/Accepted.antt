@@ -1,4 +1,5 @@
 -- What holds where the table names no refusal: each test on the way was passed.
+use Rattle.std.specs.Prelude.{if◌then◌else◌}
 use Prim.Native.Nat.{ℕ}
 use mathlib.Core.Path.{◌≡◌, refl, sym}
 use mathlib.Core.Bool.{Bool, true, false, not, true≢false}
@@ -7,7 +8,6 @@ use native.Mathlib.Omega.{arith}
 use borrow.Author.Tests.{eq-eqb, eqb-true}
 use lib.ListN.{length}
 use lib.Dec.{eqb}
-use Rattle.bits.specs.Bits.{if◌then◌else◌}
 use Rattle.machine.specs.declared.State.{State}
 use Rattle.machine.specs.State.{well_formed}
 use Rattle.memory.specs.Memory.{size}

@@ -1,8 +1,8 @@
 -- Where the bytes of an image's parts lie in it, and where the memory's bytes lie in its blocks.
+use Rattle.std.specs.Prelude.{if◌then◌else◌}
 use Rattle.std.proofs.Common.{◌≡◌, ℕ, zero, suc, ◌+◌, ◌-◌, ◌*◌, ◌<◌, ◌≤◌, min, Bool, true, false, ◌&&◌, eqb, List, [], ◌∷◌, ◌++◌, length, get_or, take, drop, replicate, sym, refl, ap, ◌∙◌, ap₂, append-nil, add-zero, arith, length-drop, drop_of_length-le, length-take, length-take-le, get_or-drop, get_or-take, take-take, drop-drop}
 use mathlib.Core.Bool.{and_assoc}
 use lib.Seq.{sets-eq, drop-append-add}
-use Rattle.bits.specs.Bits.{if◌then◌else◌}
 use Rattle.image_blocks.specs.Image.{image_size, block_of, content_of, contents_of, memory_of, rom_field, field_count, field_of, is_first, fields_in, filler_of, zeros, word_at, word_bytes, padded}
 use Rattle.image_blocks.specs.Blocks.{put_word}
 use Rattle.memory.proofs.Zeros.{drop_replicate}

@@ -1,6 +1,5 @@
 -- The image: 34 blocks of 512 bytes, each with its number, its content and its check word.
-use Rattle.std.specs.Prelude.{ℕ, zero, suc, ◌+◌, ◌-◌, ◌*◌, ◌/◌, ◌%◌, Bool, true, not, ◌&&◌, List, [], ◌∷◌, ◌++◌, length, take, drop, replicate, ◌==◌, slice_index}
-use Rattle.bits.specs.Bits.{if◌then◌else◌}
+use Rattle.std.specs.Prelude.{ℕ, zero, suc, ◌+◌, ◌-◌, ◌*◌, ◌/◌, ◌%◌, Bool, true, not, ◌&&◌, List, [], ◌∷◌, ◌++◌, length, take, drop, replicate, ◌==◌, slice_index, if◌then◌else◌}
 use Rattle.psi.specs.declared.Psi.{Psi}
 use Rattle.machine.specs.declared.State.{State}
 use Rattle.machine.specs.State.{no_rom}

@@ -1,4 +1,5 @@
 -- What holds of the blocks, and of block 0's content, where the table names no refusal.
+use Rattle.std.specs.Prelude.{if◌then◌else◌}
 use Prim.Native.Nat.{ℕ, zero, suc, ◌+◌, ◌%◌, ◌<◌}
 use mathlib.Core.Path.{◌≡◌, refl, sym}
 use mathlib.Core.Bool.{Bool, true, false, not, ◌&&◌, true≢false}
@@ -7,7 +8,6 @@ use native.Mathlib.Omega.{arith}
 use native.Mathlib.Nat.{add-zero}
 use borrow.Author.Tests.{eq-eqb, eqb-true}
 use lib.Dec.{eqb}
-use Rattle.bits.specs.Bits.{if◌then◌else◌}
 use Rattle.bits.proofs.Laws.{conjuncts}
 use Rattle.machine.specs.State.{well_formed}
 use Rattle.image_blocks.specs.Image as Image

@@ -1,4 +1,5 @@
 -- The blocks are judged from the lowest on, and the first in fault ends the search; no other refusal is 6 or 7.
+use Rattle.std.specs.Prelude.{if◌then◌else◌}
 use Prim.Native.Nat.{ℕ, zero, suc, ◌+◌, ◌%◌, ◌<◌, ◌≤◌}
 use mathlib.Core.Path.{◌≡◌, refl, sym}
 use mathlib.Core.Bool.{Bool, true, false, not, ◌&&◌, true≢false}
@@ -9,7 +10,6 @@ use native.Mathlib.Nat.{eq-or-lt_of_le}
 use borrow.Author.Tests.{eq-eqb, eqb-true}
 use lib.ListN.{length}
 use lib.Dec.{eqb}
-use Rattle.bits.specs.Bits.{if◌then◌else◌}
 use Rattle.memory.specs.Memory.{size}
 use Rattle.machine.specs.State.{well_formed}
 use Rattle.image_blocks.specs.Image as Image

@@ -1,4 +1,5 @@
 -- What is done after a microprogram is its deed; and the words of LDCR and STCR are the range 3000 to 37FF.
+use Rattle.std.specs.Prelude.{if◌then◌else◌}
 use Prim.Native.Nat.{ℕ, ◌/◌, ◌%◌}
 use mathlib.Core.Path.{◌≡◌, refl}
 use mathlib.Core.Bool.{Bool, true, false}
@@ -6,7 +7,6 @@ use mathlib.Core.Logic.{◌≢◌}
 use native.Mathlib.Omega.{arith}
 use lib.Dec.{eqb}
 use borrow.Author.Tests.{eqb-false, ne_eqb}
-use Rattle.bits.specs.Bits.{if◌then◌else◌}
 use Rattle.isa.specs.declared.Instruction.TheVariants.{Register, Transfer}
 use Rattle.isa.specs.declared.TransferOp.TheVariants.{Ldcr, Stcr}
 use Rattle.isa.specs.Isa.{opcode, source, register_operation, with_register}

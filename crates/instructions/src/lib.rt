@@ -2,8 +2,7 @@
 // takes the fields by `isa`'s parts. X is answered as with no allowance left, as unassigned: `cpu` executes it.
 #![tactic(auto)]
 
-ghost use Rattle.std.specs.Prelude.{◌≡◌, ℕ, eqb};
-ghost use Rattle.bits.specs.Bits.{if◌then◌else◌};
+ghost use Rattle.std.specs.Prelude.{◌≡◌, ℕ, eqb, if◌then◌else◌};
 ghost use Rattle.memory.specs.Memory.{Installed};
 ghost use Rattle.isa.specs.Isa as Isa;
 ghost use Rattle.isa.specs.declared.TransferOp.TheVariants as Op;

@@ -1,6 +1,6 @@
 -- A general operand takes at most one further word.
+use Rattle.std.specs.Prelude.{if◌then◌else◌}
 use Rattle.std.proofs.Common.{◌≡◌, ℕ, ◌≤◌, Bool, true, false, eqb, arith}
-use Rattle.bits.specs.Bits.{if◌then◌else◌}
 use Rattle.isa.specs.declared.Operand.{Operand}
 use Rattle.isa.specs.Isa.{operand_words}
 

@@ -1,9 +1,9 @@
 -- The definitions pick one of a few shapes by tests, so what holds of every shape holds of every word; and a word is unassigned, or an X, by
 -- the step of the definitions' tests at which it lies.
+use Rattle.std.specs.Prelude.{if◌then◌else◌}
 use Rattle.std.proofs.Common.{◌≡◌, ℕ, ◌/◌, ◌<◌, ◌≤◌, Bool, true, false, eqb, ltb, leb, ◌≢◌, sym, refl, ◌∙◌, arith, le-ltb, lt-ltb, ne_eqb, eqb-true, le-leb, leb-false, leb-true}
 use mathlib.Core.Bool.{and-false}
 use borrow.Author.Tests.{eqb-false, lt-leb}
-use Rattle.bits.specs.Bits.{if◌then◌else◌}
 use Rattle.isa.specs.declared.Instruction.{Instruction}
 use Rattle.isa.specs.declared.Instruction.TheVariants.{Dual, Register, Xop, Transfer, Bit, Jump, Shift, Single, Blwp, X, Immediate, Stwp, Stst, Lwpi, Limi, Control, Unassigned}
 use Rattle.isa.specs.Isa.{opcode, source, destination, dual, with_register, with_displacement, shift, single, immediate, decoded, further_words}

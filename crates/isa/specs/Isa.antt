@@ -1,6 +1,6 @@
 -- What each of the 65536 words is, and how many further words it takes.
-use Rattle.std.specs.Prelude.{ℕ, ◌+◌, ◌*◌, ◌/◌, ◌%◌, ltb, ◌==◌, nat_eq, nat_le, nat_lt}
-use Rattle.bits.specs.Bits.{if◌then◌else◌, signed_byte}
+use Rattle.std.specs.Prelude.{ℕ, ◌+◌, ◌*◌, ◌/◌, ◌%◌, ltb, ◌==◌, nat_eq, nat_le, nat_lt, if◌then◌else◌}
+use Rattle.bits.specs.Bits.{signed_byte}
 use Rattle.memory.specs.declared.Width.{Width}
 use Rattle.memory.specs.declared.Width.TheVariants.{Byte, Word}
 use Rattle.isa.specs.declared.Operand.{Operand}

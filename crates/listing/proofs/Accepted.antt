@@ -1,6 +1,6 @@
 -- Where nothing is refused, each test was passed.
+use Rattle.std.specs.Prelude.{if◌then◌else◌}
 use Rattle.std.proofs.Common.{◌≡◌, ℕ, ◌≤◌, Bool, true, false, not, eqb, ltb, List, length, refl, arith, ltb-false, eqb-true}
-use Rattle.bits.specs.Bits.{if◌then◌else◌}
 use Rattle.memory.specs.Memory.{size}
 use Rattle.listing.specs.Listing.{list_refusal, least_buffer}
 

@@ -1,7 +1,7 @@
 -- No line has more than 48 bytes: four digits of the address, five bytes for each of at most three words, a space and four
 -- letters, and two operands of at most eleven bytes behind a space and a comma.
+use Rattle.std.specs.Prelude.{if◌then◌else◌}
 use Rattle.std.proofs.Common.{◌≡◌, ℕ, ◌+◌, ◌*◌, ◌/◌, ◌%◌, ◌<◌, ◌≤◌, Bool, true, false, eqb, List, [], ◌∷◌, length, refl, arith, length-append, length-take}
-use Rattle.bits.specs.Bits.{if◌then◌else◌}
 use Rattle.isa.specs.declared.Operand.{Operand}
 use Rattle.isa.specs.declared.Instruction.{Instruction}
 use Rattle.isa.specs.declared.Instruction.TheVariants as isa

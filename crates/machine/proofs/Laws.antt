@@ -1,7 +1,7 @@
 -- Laws of every microprogram, each by one induction over its accesses: only a store changes memory, and only `assign` and
 -- a fetch change WP and PC.
+use Rattle.std.specs.Prelude.{if◌then◌else◌}
 use Rattle.std.proofs.Common.{◌≡◌, ℕ, ◌%◌, ◌≤◌, Bool, true, false, ◌||◌, List, [], length, get_or, sym, refl, ◌∙◌, arith, eq-eqb, eqb-true, le-leb, leb-true}
-use Rattle.bits.specs.Bits.{if◌then◌else◌}
 use Rattle.bits.proofs.Laws.{conjuncts}
 use Rattle.memory.specs.declared.Width.{Width}
 use Rattle.memory.specs.declared.Width.TheVariants.{Word}

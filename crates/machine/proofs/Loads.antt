@@ -1,7 +1,7 @@
 -- Which registers a microprogram loads, by induction on it. Of the instructions' forms only the context switch and IDLE load the flags,
 -- so all others leave them as they were.
+use Rattle.std.specs.Prelude.{if◌then◌else◌}
 use Rattle.std.proofs.Common.{◌≡◌, ℕ, zero, suc, Bool, true, false, refl}
-use Rattle.bits.specs.Bits.{if◌then◌else◌}
 use Rattle.memory.specs.declared.Width.{Width}
 use Rattle.memory.specs.declared.Width.TheVariants.{Word}
 use Rattle.memory.specs.Memory.{loaded}

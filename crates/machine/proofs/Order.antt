@@ -1,7 +1,8 @@
 -- The accesses of each definition, read off it: those of a dual form and of XOP follow those of the operand before them, and ABS goes
 -- by its test.
+use Rattle.std.specs.Prelude.{if◌then◌else◌}
 use Rattle.std.proofs.Common.{◌≡◌, ℕ, Bool, true, false, [], ◌∷◌, refl, ap}
-use Rattle.bits.specs.Bits.{if◌then◌else◌, bit}
+use Rattle.bits.specs.Bits.{bit}
 use Rattle.memory.specs.declared.Width.TheVariants.{Word}
 use Rattle.memory.specs.Memory.{loaded}
 use Rattle.machine.specs.State.{Machine}

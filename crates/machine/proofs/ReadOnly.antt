@@ -1,7 +1,7 @@
 -- Q-7: no access changes the read-only address, and a store that is not dropped begins below it, so at an even address it ends below it.
+use Rattle.std.specs.Prelude.{if◌then◌else◌}
 use Rattle.std.proofs.Common.{◌≡◌, ℕ, ◌%◌, ◌<◌, Bool, true, false, List, [], ◌∷◌, get_or, sym, refl, ◌∙◌, true≢false, arith, leb-false}
 use borrow.Author.Tests.{lt-leb}
-use Rattle.bits.specs.Bits.{if◌then◌else◌}
 use Rattle.memory.specs.declared.Width.{Width}
 use Rattle.memory.specs.declared.Width.TheVariants.{Byte, Word}
 use Rattle.memory.specs.Memory.{place, loaded, covers, touched}

@@ -1,7 +1,7 @@
 -- The instructions, form by form, with document 01's order of accesses: the source's address, its increment and its value, then the
 -- destination's; R12 after them; the result at the end. Document 02 (Q-4) adds that no access is made whose value nobody needs.
-use Rattle.std.specs.Prelude.{ℕ, zero, suc, ◌+◌, ◌*◌, ◌/◌, ◌%◌, Bool, true, false, leb, ◌==◌, nat_le}
-use Rattle.bits.specs.Bits.{if◌then◌else◌, one_if, bit, put}
+use Rattle.std.specs.Prelude.{ℕ, zero, suc, ◌+◌, ◌*◌, ◌/◌, ◌%◌, Bool, true, false, leb, ◌==◌, nat_le, if◌then◌else◌}
+use Rattle.bits.specs.Bits.{one_if, bit, put}
 use Rattle.bits.specs.Logic.{both, either, exclusive, without, inverted, swapped}
 use Rattle.memory.specs.declared.Width.{Width}
 use Rattle.memory.specs.declared.Width.TheVariants.{Byte, Word}

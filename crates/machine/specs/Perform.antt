@@ -1,8 +1,7 @@
 -- What a microprogram does to a machine, and which accesses it makes, at given pin levels.
-use Rattle.std.specs.Prelude.{ℕ, suc, ◌+◌, ◌*◌, ◌/◌, ◌%◌, Bool, List, [], ◌∷◌, ◌++◌, nat_le}
+use Rattle.std.specs.Prelude.{ℕ, suc, ◌+◌, ◌*◌, ◌/◌, ◌%◌, Bool, List, [], ◌∷◌, ◌++◌, nat_le, if◌then◌else◌}
 use Rattle.memory.specs.declared.Width.{Width}
 use Rattle.memory.specs.declared.Width.TheVariants.{Word}
-use Rattle.bits.specs.Bits.{if◌then◌else◌}
 use Rattle.memory.specs.Memory.{place, loaded, stored, touched}
 use Rattle.psi.specs.declared.CruBit.{CruBit}
 use Rattle.psi.specs.Cru as Cru

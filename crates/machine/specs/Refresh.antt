@@ -1,6 +1,6 @@
 -- Document 02, Q-4: which accesses refresh the PSI's read register, and what follows for every microprogram, so for every step.
-use Rattle.std.specs.Prelude.{◌≡◌, ℕ, Bool, true, false, not, ◌&&◌, ◌||◌, List, [], ◌∷◌, ◌++◌, ◌==◌, nat_lt}
-use Rattle.bits.specs.Bits.{if◌then◌else◌, bit}
+use Rattle.std.specs.Prelude.{◌≡◌, ℕ, Bool, true, false, not, ◌&&◌, ◌||◌, List, [], ◌∷◌, ◌++◌, ◌==◌, nat_lt, if◌then◌else◌}
+use Rattle.bits.specs.Bits.{bit}
 use Rattle.psi.specs.declared.Psi.{Psi}
 use Rattle.psi.specs.Psi.{control}
 use Rattle.psi.specs.Cru as Cru

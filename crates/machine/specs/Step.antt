@@ -1,6 +1,6 @@
 -- One step: the clock, the code, sampling and entries, or one instruction.
-use Rattle.std.specs.Prelude.{ℕ, ◌-◌, ◌*◌, ◌%◌, false, ◌==◌, nat_le, nat_lt}
-use Rattle.bits.specs.Bits.{if◌then◌else◌, bit, put}
+use Rattle.std.specs.Prelude.{ℕ, ◌-◌, ◌*◌, ◌%◌, false, ◌==◌, nat_le, nat_lt, if◌then◌else◌}
+use Rattle.bits.specs.Bits.{bit, put}
 use Rattle.psi.specs.Clock as Clock
 use Rattle.psi.specs.Pins as Pins
 use Rattle.psi.specs.declared.Record.{Record}

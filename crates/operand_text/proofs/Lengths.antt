@@ -1,4 +1,5 @@
 -- How long operands are as text: a register of k + 1 digits has one byte more, and an indexed operand ten.
+use Rattle.std.specs.Prelude.{if◌then◌else◌}
 use Prim.Native.Nat.{ℕ, suc, ◌+◌, ◌-◌, ◌^◌, ◌<◌, ◌≤◌}
 use mathlib.Core.Path.{◌≡◌}
 use mathlib.Core.Bool.{Bool, true, false}
@@ -6,7 +7,6 @@ use mathlib.Core.List.{List}
 use native.Mathlib.Omega.{arith}
 use lib.Dec.{eqb, ltb}
 use lib.ListN.{length, length-append}
-use Rattle.bits.specs.Bits.{if◌then◌else◌}
 use Rattle.isa.specs.declared.Operand.{Operand}
 use Rattle.text.specs.Texts.{ascii}
 use Rattle.text.proofs.Laws.{hex_length, decimal_length}

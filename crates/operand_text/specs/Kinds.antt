@@ -1,6 +1,5 @@
 -- An operand of each kind as text, and the operands of a line.
-use Rattle.std.specs.Prelude.{ℕ, ◌-◌, List, [], ◌++◌, eqb, ltb}
-use Rattle.bits.specs.Bits.{if◌then◌else◌}
+use Rattle.std.specs.Prelude.{ℕ, ◌-◌, List, [], ◌++◌, eqb, ltb, if◌then◌else◌}
 use Rattle.isa.specs.declared.Operand.{Operand}
 use Rattle.text.specs.Texts.{ascii, hex, decimal}
 use Rattle.notation.specs.declared.Written.{Written}

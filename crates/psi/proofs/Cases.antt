@@ -1,7 +1,7 @@
 -- A property of a choice holds if it holds of what is chosen.
+use Rattle.std.specs.Prelude.{if◌then◌else◌}
 use mathlib.Core.Path.{◌≡◌, refl}
 use mathlib.Core.Bool.{Bool, true, false}
-use Rattle.bits.specs.Bits.{if◌then◌else◌}
 
 pub either_way :
     {A : Type 0} (P : A → Type 0) (b : Bool) {x y : A} → (b ≡ true → P x) → (b ≡ false → P y) → P (if b then x else y)

@@ -1,5 +1,6 @@
 -- Most is read off the law of ticks at once: ticks leave the phase alone, so m + n cycles have the ticks of m cycles and then those of
 -- n; pending comes with the first tick that brings the decrementer to 0. A period goes down to 0, to the largest value, and down again.
+use Rattle.std.specs.Prelude.{if◌then◌else◌}
 use Prim.Native.Nat.{ℕ, zero, suc, ◌+◌, ◌-◌, ◌/◌, ◌%◌, ◌<◌, ◌≤◌}
 use mathlib.Core.Path.{◌≡◌, refl, sym, ap, ◌∙◌}
 use mathlib.Core.Bool.{not, and-true}
@@ -8,7 +9,6 @@ use native.Mathlib.Nat.{add-zero, add-suc, mod-eq_of_lt}
 use native.Mathlib.Numerals.{add-one}
 use lib.Dec.{eqb}
 use borrow.Author.Tests.{ne_eqb, le-leb}
-use Rattle.bits.specs.Bits.{if◌then◌else◌}
 use Rattle.psi.specs.declared.Psi.{Psi}
 use Rattle.psi.specs.Psi.{control, with_phase, with_pending}
 use Rattle.psi.specs.Clock.{followed, ticks, advanced}

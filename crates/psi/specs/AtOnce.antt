@@ -1,7 +1,6 @@
 -- The clock after n ticks, worked out at once, as the code does it. Nothing of this enters the clock's definition: that it comes
 -- to the same is a theorem.
-use Rattle.std.specs.Prelude.{ℕ, ◌+◌, ◌-◌, ◌%◌, ◌<◌, ◌≡◌, not, ◌&&◌, eqb, leb}
-use Rattle.bits.specs.Bits.{if◌then◌else◌}
+use Rattle.std.specs.Prelude.{ℕ, ◌+◌, ◌-◌, ◌%◌, ◌<◌, ◌≡◌, not, ◌&&◌, eqb, leb, if◌then◌else◌}
 use Rattle.psi.specs.declared.Psi.{Psi}
 use Rattle.psi.specs.Psi.{clock_largest, with_count}
 use Rattle.psi.specs.Clock.{followed, ticks}

@@ -1,6 +1,5 @@
 -- The clock, tick by tick.
-use Rattle.std.specs.Prelude.{ℕ, zero, suc, ◌+◌, ◌-◌, ◌/◌, ◌%◌, eqb}
-use Rattle.bits.specs.Bits.{if◌then◌else◌}
+use Rattle.std.specs.Prelude.{ℕ, zero, suc, ◌+◌, ◌-◌, ◌/◌, ◌%◌, eqb, if◌then◌else◌}
 use Rattle.psi.specs.declared.Psi.{Psi}
 use Rattle.psi.specs.Psi.{tick_cycles, clock_largest, control, refreshed, with_count, with_phase}
 

@@ -1,6 +1,5 @@
 -- What the clock's definitions come to: the clock cycle by cycle, and its period.
-use Rattle.std.specs.Prelude.{ℕ, suc, ◌+◌, ◌-◌, ◌<◌, ◌≤◌, ◌≡◌, false, not, eqb}
-use Rattle.bits.specs.Bits.{if◌then◌else◌}
+use Rattle.std.specs.Prelude.{ℕ, suc, ◌+◌, ◌-◌, ◌<◌, ◌≤◌, ◌≡◌, false, not, eqb, if◌then◌else◌}
 use Rattle.psi.specs.declared.Psi.{Psi}
 use Rattle.psi.specs.Psi.{tick_cycles, control, with_phase, with_pending}
 use Rattle.psi.specs.Clock.{tick, ticks, advanced}

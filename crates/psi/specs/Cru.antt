@@ -1,6 +1,6 @@
 -- CRU bits: their numbers, and what reading and writing the PSI's bits does.
-use Rattle.std.specs.Prelude.{ℕ, ◌+◌, ◌-◌, ◌/◌, ◌%◌, Bool, true, not, eqb, ltb}
-use Rattle.bits.specs.Bits.{if◌then◌else◌, bit, put, signed_byte}
+use Rattle.std.specs.Prelude.{ℕ, ◌+◌, ◌-◌, ◌/◌, ◌%◌, Bool, true, not, eqb, ltb, if◌then◌else◌}
+use Rattle.bits.specs.Bits.{bit, put, signed_byte}
 use Rattle.psi.specs.declared.Psi.{Psi}
 use Rattle.psi.specs.declared.CruBase.{CruBase}
 use Rattle.psi.specs.declared.CruBit.{CruBit}

@@ -1,6 +1,6 @@
 -- Pin records, levels at the pins, requests and their code.
-use Rattle.std.specs.Prelude.{ℕ, zero, suc, ◌+◌, ◌-◌, ◌/◌, ◌%◌, ◌^◌, Bool, not, ◌&&◌, eqb, ltb}
-use Rattle.bits.specs.Bits.{if◌then◌else◌, bit}
+use Rattle.std.specs.Prelude.{ℕ, zero, suc, ◌+◌, ◌-◌, ◌/◌, ◌%◌, ◌^◌, Bool, not, ◌&&◌, eqb, ltb, if◌then◌else◌}
+use Rattle.bits.specs.Bits.{bit}
 use Rattle.psi.specs.declared.Psi.{Psi}
 use Rattle.psi.specs.declared.Record.{Record}
 

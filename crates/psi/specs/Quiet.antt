@@ -1,8 +1,7 @@
 -- A quick test for no request, all 15 at once, as the code makes it. Nothing of this enters the definition of a request: that there is
 -- none where the test succeeds is a theorem. Request n stands at the weight 2^(n-1), as its pin does in a record.
-use Rattle.std.specs.Prelude.{ℕ, ◌-◌, ◌*◌, ◌/◌, ◌%◌, ◌^◌, ◌≡◌, Bool, true, eqb, ltb}
+use Rattle.std.specs.Prelude.{ℕ, ◌-◌, ◌*◌, ◌/◌, ◌%◌, ◌^◌, ◌≡◌, Bool, true, eqb, ltb, if◌then◌else◌}
 use Rattle.std.specs.Int.Bits.{bit_and}
-use Rattle.bits.specs.Bits.{if◌then◌else◌}
 use Rattle.psi.specs.declared.Psi.{Psi}
 use Rattle.psi.specs.Pins.{request}
 

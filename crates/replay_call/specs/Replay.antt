@@ -1,6 +1,5 @@
 -- What the program does between its files: an image and a pin file in; the answer's number, the line and the image after out.
-use Rattle.std.specs.Prelude.{ℕ, not, List, length, replicate, eqb}
-use Rattle.bits.specs.Bits.{if◌then◌else◌}
+use Rattle.std.specs.Prelude.{ℕ, not, List, length, replicate, eqb, if◌then◌else◌}
 use Rattle.memory.specs.Memory.{size}
 use Rattle.machine.specs.declared.State.{State}
 use Rattle.machine.specs.declared.StepAnswer.{StepAnswer}

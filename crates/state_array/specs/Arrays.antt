@@ -1,6 +1,5 @@
 -- A state as an array of thirteen numbers of 32 bits.
-use Rattle.std.specs.Prelude.{ℕ, ◌+◌, Bool, true, ◌&&◌, List, [], ◌∷◌, get_or, take, ltb}
-use Rattle.bits.specs.Bits.{if◌then◌else◌}
+use Rattle.std.specs.Prelude.{ℕ, ◌+◌, Bool, true, ◌&&◌, List, [], ◌∷◌, get_or, take, ltb, if◌then◌else◌}
 use Rattle.psi.specs.Psi as Own
 use Rattle.machine.specs.declared.State.{State}
 use Rattle.machine.specs.State.{no_rom}

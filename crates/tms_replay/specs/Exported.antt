@@ -1,7 +1,6 @@
 -- The calls as C, Fortran and Rust see them: a state is an array of thirteen numbers, a run's counts are four, a line's length and words
 -- two, a block is one, what is told of two images four.
-use Rattle.std.specs.Prelude.{ℕ, ◌≡◌, List, [], ◌∷◌, eqb}
-use Rattle.bits.specs.Bits.{if◌then◌else◌}
+use Rattle.std.specs.Prelude.{ℕ, ◌≡◌, List, [], ◌∷◌, eqb, if◌then◌else◌}
 use Rattle.machine.specs.Answer as Answer
 use Rattle.machine.specs.Run as Run
 use Rattle.image_blocks.specs.Image as Image

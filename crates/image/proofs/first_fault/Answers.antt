@@ -1,11 +1,11 @@
 -- `first_fault` meets its contract: the blocks before `i` are in order, so the first fault is that of the blocks from `i` on.
+use Rattle.std.specs.Prelude.{if◌then◌else◌}
 use Prim.Native.Nat.{ℕ, suc, ◌+◌, ◌-◌, ◌<◌}
 use mathlib.Core.Path.{◌≡◌, refl, sym, ◌∙◌}
 use mathlib.Core.List.{List}
 use native.Mathlib.Omega.{arith}
 use borrow.Author.Tests.{eq-eqb, ne_eqb}
 use lib.Dec.{eqb}
-use Rattle.bits.specs.Bits.{if◌then◌else◌}
 use Rattle.image_blocks.specs.Image.{block_fault}
 use Rattle.image.specs.Calls.{first_fault}
 use Rattle.image.proofs.first_fault.Goals as goal

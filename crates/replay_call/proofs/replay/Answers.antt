@@ -7,7 +7,6 @@ use Rattle.machine.specs.declared.State.{State}
 use Rattle.image.specs.declared.WriteAnswer.{WriteAnswer}
 use Rattle.image.specs.Calls.{write, write_fault}
 use Rattle.replay_call.specs.Replay.{replay_in}
-use borrow.Author.Rules.{rules}
 use Rattle.replay_call.proofs.replay.Goals as goal
 
 -- a refused write stores nothing

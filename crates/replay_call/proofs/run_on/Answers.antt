@@ -5,7 +5,6 @@ use mathlib.Core.List.{List, ◌++◌}
 use lib.ListN.{length, take, drop, replicate}
 use lib.Seq.{take_at}
 use Rattle.replay_files.specs.Pins as Pins
-use borrow.Author.Rules.{rules}
 use Rattle.replay_call.proofs.run_on.Goals as goal
 
 first :
