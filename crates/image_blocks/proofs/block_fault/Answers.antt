@@ -1,5 +1,6 @@
 -- `block_fault` meets its contract: the tests are the definition's, on the block's bytes where they lie in the image.
-use Rattle.std.proofs.Common.{◌≡◌, ℕ, ◌+◌, ◌-◌, ◌*◌, ◌%◌, List, take, drop, sym, ◌∙◌, arith, eq-eqb, ne_eqb}
+use Rattle.std.proofs.Common.{◌≡◌, ℕ, ◌+◌, ◌-◌, ◌*◌, ◌%◌, List, take, drop, sym, ◌∙◌, arith}
+use Rattle.std.proofs.lemmas.Bool.Decides.{nat_tests}
 use Rattle.image_blocks.specs.Image.{block_of, words_sum}
 use Rattle.image_blocks.specs.Image.{block_fault}
 use Rattle.image_blocks.proofs.Parts.{block_word}
@@ -15,18 +16,18 @@ unfolding block_fault
 returns-then-sum c =
     let sum = whole c.args.image.now c.args.i (512 * c.args.i + 512 - 512 * c.args.i) _ c.words_sum-sum.ensures (omega arith) in
     let number = block_word c.args.image.now c.args.i ∙ sym c.word-number.ensures in
-    simp (sum, number, ne_eqb _ _ c.if-sum.true)
+    simp (sum, number) (grind (arith, nat_tests))
 
 pub returns-then-number-i : goal.returns-then-number-i
 unfolding block_fault
 returns-then-number-i c =
     let sum = whole c.args.image.now c.args.i (512 * c.args.i + 512 - 512 * c.args.i) _ c.words_sum-sum.ensures (omega arith) in
     let number = block_word c.args.image.now c.args.i ∙ sym c.word-number.ensures in
-    simp (sum, number, eq-eqb _ _ c.if-sum.false, ne_eqb _ _ c.if-number-i.true)
+    simp (sum, number) (grind (arith, nat_tests))
 
 pub returns : goal.returns
 unfolding block_fault
 returns c =
     let sum = whole c.args.image.now c.args.i (512 * c.args.i + 512 - 512 * c.args.i) _ c.words_sum-sum.ensures (omega arith) in
     let number = block_word c.args.image.now c.args.i ∙ sym c.word-number.ensures in
-    simp (sum, number, eq-eqb _ _ c.if-sum.false, eq-eqb _ _ c.if-number-i.false)
+    simp (sum, number) (grind (arith, nat_tests))

@@ -1,11 +1,13 @@
 -- Invariant: the run from the start is the steps so far, with their counts and the last of them, and then the run from here.
-use Prim.Native.Nat.{◌-◌}
+use Prim.Native.Nat.{ℕ, ◌+◌, ◌-◌}
 use mathlib.Core.Path.{◌≡◌, refl, sym, ◌∙◌}
 use native.Mathlib.Nat.{sub-zero, add-zero}
 use native.Mathlib.Omega.{arith}
 use borrow.Author.Tests.{eq-eqb, ne_eqb}
-use Rattle.machine.specs.State.{at}
-use Rattle.machine.specs.Answer.{latest}
+use Rattle.machine.specs.State.{Machine, at}
+use Rattle.machine.specs.declared.StepAnswer.{StepAnswer}
+use Rattle.machine.specs.Answer.{latest, missed}
+use Rattle.machine.specs.Run.{Ran, one_more}
 use Rattle.run_rules.proofs.Laws.{both, both_none, both_later, stopped, none_left, missed_at_most}
 use Rattle.replay_core.proofs.Runs.{goes_on, latest_step}
 use Rattle.replay_core.proofs.run.run_steps.Goals as goal
@@ -20,7 +22,13 @@ returns-then-pc-stop c =
     record { bytes_value = c.loop-done.invariant.3 ∙ rw (stopped _ _ _ _ (eq-eqb _ _ c.if-pc-stop.true)) (simp add-zero); number_value = refl }
 
 pub overflow_add-unassigned : goal.overflow_add-unassigned
-overflow_add-unassigned c = omega (arith, c.missed-unassigned.ensures, missed_at_most c.step-stepped.result.answer, c.ranges.steps.fits)
+overflow_add-unassigned c = omega (arith, missed_at_most c.step-stepped.result.answer, c.ranges.steps.fits)
+
+-- a step between two runs, with the number that the code adds to the unassigned words
+counted : (m : Machine) (d u n : ℕ) (b a : StepAnswer) (y : Ran) → n ≡ missed a → latest b a ≡ a
+    → both (record { machine = m; steps = d; unassigned = u; last = b }) (one_more a y)
+    ≡ both (record { machine = m; steps = d + 1; unassigned = u + n; last = a }) y
+counted m d u n b a y e h = rw e (both_later m d u b a y h)
 
 pub loop-done-preserved : goal.loop-done-preserved
 unfolding both
@@ -30,10 +38,10 @@ loop-done-preserved c =
     let step = c.step-stepped in (
       step.auto.bytes ∙ loop.invariant.0,
       omega arith,
-      omega (arith, c.missed-unassigned.ensures, missed_at_most step.result.answer),
+      omega (arith, missed_at_most step.result.answer),
       loop.invariant.3
-          ∙ rw (goes_on args.stop args.steps loop.done args.records.now (at loop.s loop.bytes) (ne_eqb _ _ c.if-pc-stop.false) (omega arith) (omega arith), step.ensures, c.missed-unassigned.ensures)
-          (both_later (at loop.s loop.bytes) loop.done loop.unassigned loop.last step.result.answer _ (latest_step _ _ _ _ _ step.ensures)),
+          ∙ rw (goes_on args.stop args.steps loop.done args.records.now (at loop.s loop.bytes) (ne_eqb _ _ c.if-pc-stop.false) (omega arith) (omega arith), step.ensures)
+          (counted (at loop.s loop.bytes) loop.done loop.unassigned _ loop.last step.result.answer _ (omega arith) (latest_step _ _ _ _ _ step.ensures)),
     )
 
 pub returns : goal.returns
