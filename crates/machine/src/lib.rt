@@ -6,6 +6,7 @@ ghost use Rattle.machine.specs.State as Own;
 ghost use Rattle.machine.specs.Perform as Perform;
 
 use psi::Psi;
+use refusals::Refusal;
 
 pub mod bus;
 
@@ -158,5 +159,21 @@ pub struct RunAnswer {
 #[derive(Clone, Copy)]
 pub struct StateAnswer {
     pub number: u16,
+    pub state: State,
+}
+
+// What an accepted run did: the state after it, the steps done, how many of them met an unassigned word, and what the last of them answered.
+#[derive(Clone, Copy)]
+pub struct Ran {
+    pub state: State,
+    pub steps: usize,
+    pub unassigned: usize,
+    pub last: StepAnswer,
+}
+
+// Why a call is refused, and the state that it returns then.
+#[derive(Clone, Copy)]
+pub struct Refused {
+    pub refusal: Refusal,
     pub state: State,
 }
