@@ -3,11 +3,10 @@ use Rattle.std.specs.Prelude.{ℕ, ◌%◌, ◌<◌, ◌≡◌, true, List, [], 
 use Rattle.memory.specs.declared.Width.TheVariants.{Word}
 use Rattle.memory.specs.Memory.{size, loaded, touched, disjoint}
 use Rattle.machine.specs.declared.State.{State}
-use Rattle.machine.specs.declared.RunAnswer.{RunAnswer}
 use Rattle.machine.specs.State.{Machine, at}
 use Rattle.machine.specs.Laws.{Words}
 use Rattle.machine.specs.Operands.{register_at}
-use Rattle.machine.specs.Run.{Promised}
+use Rattle.machine.specs.Run.{Promised, RunAnswer}
 use Rattle.book.specs.Book.{Note, Book, Event, opened, returned, cleared, other, turn, Moment, Call, call_moments, call_machine, book_after, all_moments}
 
 -- what was observed of a call: its arguments, its answer, and the lent memory after it

@@ -1,10 +1,9 @@
 -- Runs in parts, refused runs, and where a run stops.
 use Rattle.std.specs.Prelude.{ℕ, ◌+◌, ◌%◌, ◌≤◌, ◌<◌, ◌≡◌, List, length, drop}
 use Rattle.machine.specs.declared.State.{State}
-use Rattle.machine.specs.declared.RunAnswer.{RunAnswer}
 use Rattle.machine.specs.declared.StepAnswer.TheVariants.{Nothing}
 use Rattle.machine.specs.Answer.{latest}
-use Rattle.machine.specs.Run.{RunResult, run_refusal, run}
+use Rattle.machine.specs.Run.{RunResult, run_refusal, run, RunAnswer}
 
 -- a first run, and then a second one: counts are summed, and the last step is the second's, or the first's where the second did none
 abbrev pub joined : RunAnswer → RunResult → RunResult

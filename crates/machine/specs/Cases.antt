@@ -6,9 +6,8 @@ use Rattle.psi.specs.declared.Psi.{Psi}
 use Rattle.psi.specs.Clock.{advanced}
 use Rattle.psi.specs.Pins.{code}
 use Rattle.machine.specs.declared.State.{State}
-use Rattle.machine.specs.declared.RunAnswer.{RunAnswer}
 use Rattle.machine.specs.Answer.{number, value}
-use Rattle.machine.specs.Run.{RunResult, run}
+use Rattle.machine.specs.Run.{RunResult, run, RunAnswer}
 use Rattle.machine.specs.Rules as Rules
 
 -- a word at an address

@@ -4,7 +4,7 @@ use Rattle.psi.specs.declared.Psi.{Psi}
 use Rattle.psi.specs.Psi.{blank, with_pending}
 use Rattle.psi.specs.Clock.{advanced}
 use Rattle.machine.specs.declared.State.{State}
-use Rattle.machine.specs.declared.RunAnswer.{RunAnswer}
+use Rattle.machine.specs.Run.{RunAnswer}
 use Rattle.machine.specs.declared.StepAnswer.{StepAnswer}
 use Rattle.machine.specs.declared.StepAnswer.TheVariants.{Level, Instruction, Unassigned}
 use Rattle.machine.specs.State.{no_rom}

@@ -1,9 +1,10 @@
 -- A run of steps, power up, and when the two calls refuse.
-use Rattle.std.specs.Prelude.{◌≡◌, ℕ, zero, suc, ◌+◌, true, false, not, List, [], ◌∷◌, length, ◌==◌, nat_lt, if◌then◌else◌}
+use Rattle.std.specs.Prelude.{◌≡◌, ℕ, zero, suc, ◌+◌, true, false, not, List, [], ◌∷◌, length, ◌==◌, nat_lt, if◌then◌else◌, Result, Ok, Err}
 use Rattle.memory.specs.Memory.{size}
 use Rattle.machine.specs.declared.State.{State}
-use Rattle.machine.specs.declared.RunAnswer.{RunAnswer}
-use Rattle.machine.specs.declared.StateAnswer.{StateAnswer}
+use Rattle.machine.specs.declared.Ran.{Ran as Did}
+use Rattle.machine.specs.declared.Refused.{Refused}
+use Rattle.refusals.specs.Refusals as Refusals
 use Rattle.machine.specs.State.{Machine, blank, well_formed}
 use Rattle.machine.specs.Perform.{perform}
 use Rattle.machine.specs.declared.StepAnswer.{StepAnswer}
@@ -51,6 +52,21 @@ run_refusal bytes s records steps =
     else if nat_lt records steps then 3
     else 0
 
+-- A run's answer: the number of document 01's table, the state, the steps done, how many of them met an unassigned word, and what the
+-- last of them answered.
+pub record RunAnswer : Type 0 where
+  pub number : ℕ
+  pub state : State
+  pub steps : ℕ
+  pub unassigned : ℕ
+  pub last : StepAnswer
+
+-- the answer that an outcome of `run` is: 0 and what it did, or the refusal's number and state, with no steps
+unfoldable pub run_answer : Result Did Refused → RunAnswer
+run_answer (Ok r) = record { number = 0; state = r.state; steps = r.steps; unassigned = r.unassigned; last = r.last }
+run_answer (Err r) =
+    record { number = Refusals.number r.refusal; state = r.state; steps = 0; unassigned = 0; last = Nothing }
+
 -- the answer and the memory after the call
 pub record RunResult : Type 0 where
   pub answer : RunAnswer
@@ -92,6 +108,16 @@ Promised m s records steps stop answer after =
 -- Power up refuses a memory of another size, with the blank state.
 unfoldable pub power_up_refusal : ℕ → ℕ
 power_up_refusal bytes = if not (bytes == size) then 1 else 0
+
+-- an answer of a number and a state
+pub record StateAnswer : Type 0 where
+  pub number : ℕ
+  pub state : State
+
+-- the answer that an outcome of `power_up` is: 0 and the state, or the refusal's number and state
+unfoldable pub state_answer : Result State Refused → StateAnswer
+state_answer (Ok s) = record { number = 0; state = s }
+state_answer (Err r) = record { number = Refusals.number r.refusal; state = r.state }
 
 pub record StateResult : Type 0 where
   pub answer : StateAnswer

@@ -79,87 +79,38 @@ impl State {
     pub const NO_ROM: u32 = memory::SIZE as u32;
 
     // All fields 0, and nothing read-only.
-    pub fn blank() -> Self
+    pub fn blank() -> State
         ensures { result ≡ Own.blank }
     {
-        let psi = Psi::blank();
-        Self {
+        State {
             wp: 0,
             pc: 0,
             st: 0,
             flags: 0,
-            psi,
+            psi: Psi::blank(),
             rom: State::NO_ROM,
         }
     }
 
-    // The same with another PSI.
-    pub fn with_psi(self, psi: Psi) -> State
-        ensures { result ≡ Own.with_psi psi self }
+    // An access to memory at this byte address, which the PSI sees.
+    fn addressed(&mut self, address: u16)
+        ensures { self.new ≡ Perform.addressed address self.old }
     {
-        State {
-            wp: self.wp,
-            pc: self.pc,
-            st: self.st,
-            flags: self.flags,
-            psi,
-            rom: self.rom,
-        }
-    }
-
-    // The same after an access to memory at this byte address, which the PSI sees.
-    pub fn addressed(self, address: u16) -> State
-        ensures { result ≡ Perform.addressed address self }
-    {
-        let before = self.psi;
-        let psi = before.addressed(address);
-        self.with_psi(psi)
+        self.psi = self.psi.addressed(address);
     }
 
     // WP and PC even, flags at most 2, the read-only address even and at most the memory's size, and the PSI's fields in order.
+    #[tactic(auto, unfolding(crate::specs::State::well_formed))]
     pub fn well_formed(self) -> bool
         ensures { result ≡ Own.well_formed self }
     {
-        let wp = self.wp;
-        let pc = self.pc;
-        let flags = self.flags;
-        let rom = self.rom;
-        let psi = self.psi;
-        if wp % 2 != 0 {
-            return false;
-        }
-        if pc % 2 != 0 {
-            return false;
-        }
-        if State::FLAGS_LARGEST < flags {
-            return false;
-        }
-        if rom % 2 != 0 {
-            return false;
-        }
-        if State::NO_ROM < rom {
-            return false;
-        }
-        psi.well_formed()
+        self.wp % 2 == 0
+            && self.pc % 2 == 0
+            && self.flags <= State::FLAGS_LARGEST
+            && self.rom % 2 == 0
+            && self.rom <= State::NO_ROM
+            && self.psi.well_formed()
     }
-}
-
-// The run's answer: the number of document 01's table, the state, the steps done, how many of them met an unassigned word, and what
-// the last of them answered.
-#[derive(Clone, Copy)]
-pub struct RunAnswer {
-    pub number: u16,
-    pub state: State,
-    pub steps: usize,
-    pub unassigned: usize,
-    pub last: StepAnswer,
-}
-
-// An answer of a number and a state.
-#[derive(Clone, Copy)]
-pub struct StateAnswer {
-    pub number: u16,
-    pub state: State,
 }
 
 // What an accepted run did: the state after it, the steps done, how many of them met an unassigned word, and what the last of them answered.

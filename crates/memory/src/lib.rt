@@ -24,21 +24,15 @@ pub fn bytes(width: Width) -> u16
     }
 }
 
-// A byte as a number of 16 bits.
-fn wide(byte: u8) -> u16
-    ensures { result ≡ byte }
-{
-    byte as u16
-}
-
 // The word of two bytes, the high one first.
 pub fn word(high: u8, low: u8) -> u16
     ensures { result ≡ high * 256 + low }
 {
-    wide(high) * 256 + wide(low)
+    u16::from_be_bytes([high, low])
 }
 
 // The first byte of an access of this width at this address. (Load and store, which know their width in each arm, work it out there.)
+#[tactic(auto, unfolding(crate::specs::Memory::place))]
 pub fn place(width: Width, address: u16) -> u16
     ensures { result ≡ Memory.place width address }
 {
@@ -49,15 +43,12 @@ pub fn place(width: Width, address: u16) -> u16
 }
 
 // What an access of this width at this address reads.
-pub fn load(memory: &[u8], width: Width, address: u16) -> u16
-    requires { Memory.Installed memory.now }
+#[tactic(auto, unfolding(crate::specs::Memory::loaded, crate::specs::Memory::number, crate::specs::Memory::place))]
+pub fn load(memory: &[u8; SIZE], width: Width, address: u16) -> u16
     ensures { result ≡ Memory.loaded width memory.now address }
 {
     match width {
-        Width::Byte => {
-            let at = (address as usize) % SIZE;
-            wide(memory[at])
-        }
+        Width::Byte => memory[(address as usize) % SIZE] as u16,
         Width::Word => {
             let at = ((address / 2 * 2) as usize) % SIZE;
             word(memory[at], memory[at + 1])
@@ -66,15 +57,12 @@ pub fn load(memory: &[u8], width: Width, address: u16) -> u16
 }
 
 // Stores the lowest byte, or the word, at this address.
-pub fn store(memory: &mut [u8], width: Width, address: u16, value: u16)
-    requires { Memory.Installed memory.old }
+#[tactic(auto, unfolding(crate::specs::Memory::stored, crate::specs::Memory::spread, crate::specs::Memory::place))]
+pub fn store(memory: &mut [u8; SIZE], width: Width, address: u16, value: u16)
     ensures { memory.new ≡ Memory.stored width memory.old address value }
 {
     match width {
-        Width::Byte => {
-            let at = (address as usize) % SIZE;
-            memory[at] = (value % 256) as u8;
-        }
+        Width::Byte => memory[(address as usize) % SIZE] = (value % 256) as u8,
         Width::Word => {
             let at = ((address / 2 * 2) as usize) % SIZE;
             memory[at] = (value / 256) as u8;

@@ -17,11 +17,10 @@ use Rattle.machine.specs.declared.StepAnswer.{StepAnswer}
 use Rattle.machine.specs.State.{Machine, at, blank}
 use Rattle.replay_core.specs.Runs.{ended}
 use Rattle.machine.specs.Perform.{performed, perform}
-use Rattle.machine.specs.declared.RunAnswer.{RunAnswer}
 use Rattle.machine.specs.declared.Signal.TheVariants.{Reset as reset}
 use Rattle.machine.specs.Step.{boundary}
 use Rattle.machine.specs.Answer.{as_told, answered, answer, latest}
-use Rattle.machine.specs.Run.{one_more, runs, run_refusal, run, Promised, power_up_refusal, power_up}
+use Rattle.machine.specs.Run.{one_more, runs, run_refusal, run, Promised, power_up_refusal, power_up, RunAnswer}
 use Rattle.run_rules.proofs.Laws as Laws
 
 -- elsewhere than at the stop address one step is done

@@ -1,8 +1,7 @@
 -- A run that has ended, from what the code answers.
 use Rattle.std.specs.Prelude.{ℕ, List}
-use Rattle.machine.specs.declared.RunAnswer.{RunAnswer}
 use Rattle.machine.specs.State.{at}
-use Rattle.machine.specs.Run.{Ran}
+use Rattle.machine.specs.Run.{Ran, RunAnswer}
 
 -- a run that has ended with this answer and this memory
 abbrev pub ended : RunAnswer → List ℕ → Ran

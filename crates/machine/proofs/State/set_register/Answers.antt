@@ -2,7 +2,7 @@
 use Rattle.machine.specs.Micro as Micro
 use Rattle.machine.specs.Perform.{perform}
 use Rattle.machine.specs.Operands.{set_register}
-use Rattle.machine.proofs.bus.set_register.Goals as goal
+use Rattle.machine.proofs.State.set_register.Goals as goal
 
 pub returns : goal.returns
 unfolding perform Micro.registers Micro.store set_register

@@ -2,7 +2,7 @@
 use Rattle.machine.specs.Micro as Micro
 use Rattle.machine.specs.Perform.{perform}
 use Rattle.machine.specs.Operands.{register}
-use Rattle.machine.proofs.bus.register.Goals as goal
+use Rattle.machine.proofs.State.register.Goals as goal
 
 pub returns : goal.returns
 unfolding perform Micro.registers Micro.load register
