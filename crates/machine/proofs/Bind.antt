@@ -53,3 +53,6 @@ module _ (v : ℕ) where
   pub perform_registers : (m : Machine) → perform v registers m ≡ performed (State.registers m.state) m
   unfolding perform registers
   perform_registers m = refl
+
+-- one access after the other, as a straight run of calls performs them
+pub ruleset in_turn = (perform_bind, perform_done, perform_registers)

@@ -2,64 +2,45 @@
 #![tactic(auto)]
 
 ghost use Rattle.std.specs.Prelude.{◌≡◌, ℕ};
-ghost use Rattle.memory.specs.Memory.{Installed};
 ghost use Rattle.machine.specs.State.{at};
 ghost use Rattle.machine.specs.Operands as Operands;
 ghost use Rattle.machine.specs.Perform.{perform, performed};
 
 use isa::Operand;
-use machine::bus::Loaded;
-use machine::{State, bus};
-use memory::Width;
+use machine::State;
+use memory::{SIZE, Width};
 
 pub mod results;
 
 // A further word, plus a register where that is not R0.
-fn indexed(bytes: &[u8], state: State, n: u16) -> Loaded
-    requires { Installed bytes.now }
-    ensures { (v : ℕ) → perform v (Operands.indexed n) (at state bytes.now) ≡ performed result.value (at result.state bytes.now) }
+#[tactic(auto, using(machine::proofs::Bind::in_turn), unfolding(machine::specs::Operands::indexed))]
+fn indexed(state: &mut State, memory: &[u8; SIZE], n: u16) -> u16
+    ensures { (v : ℕ) → perform v (Operands.indexed n) (at state.old memory.now) ≡ performed result (at state.new memory.now) }
 {
-    let base = bus::fetch(bytes, state);
-    let from = base.state;
+    let base = state.fetch(memory);
     if n == 0 {
         return base;
     }
-    let index = bus::register(bytes, from, n);
-    let after = index.state;
-    Loaded {
-        value: std::num::wrapping_add_u16(base.value, index.value),
-        state: after,
-    }
+    base.wrapping_add(state.register(memory, n))
 }
 
 // The address of a general operand.
-pub fn address(bytes: &mut [u8], state: State, width: Width, operand: Operand) -> Loaded
-    requires { Installed bytes.old }
-    ensures { (v : ℕ) → perform v (Operands.operand width operand) (at state bytes.old) ≡ performed result.value (at result.state bytes.new) }
+#[tactic(auto, using(machine::proofs::Bind::in_turn), unfolding(machine::specs::Operands::operand, machine::specs::Operands::stepped))]
+pub fn address(state: &mut State, memory: &mut [u8; SIZE], width: Width, operand: Operand) -> u16
+    ensures { (v : ℕ) → perform v (Operands.operand width operand) (at state.old memory.old) ≡ performed result (at state.new memory.new) }
 {
-    let mode = operand.mode;
     let n = operand.register;
-    if mode == 0 {
-        let wp = state.wp;
-        return Loaded {
-            value: bus::register_at(wp, n),
-            state,
-        };
-    }
-    if mode == 2 {
-        return indexed(bytes, state, n);
-    }
-    // One read of the register for both modes that are left: a second one would make this function too large to be compiled into its
-    // callers.
-    let held = bus::register(bytes, state, n);
-    if mode == 1 {
-        return held;
-    }
-    let from = held.state;
-    let next = std::num::wrapping_add_u16(held.value, memory::bytes(width));
-    let after = bus::set_register(bytes, from, n, next);
-    Loaded {
-        value: held.value,
-        state: after,
+    match operand.mode {
+        0 => state.register_at(n),
+        2 => indexed(state, memory, n),
+        // One read of the register for both modes that are left: a second one would make this function too large to be compiled into its
+        // callers.
+        mode => {
+            let held = state.register(memory, n);
+            if mode != 1 {
+                state.set_register(memory, n, held.wrapping_add(memory::bytes(width)));
+            }
+            held
+        }
     }
 }
