@@ -2,14 +2,14 @@
 #![tactic(auto)]
 
 ghost use Rattle.std.specs.Prelude.{◌≡◌, ℕ};
-ghost use Rattle.memory.specs.Memory.{Installed};
-ghost use Rattle.machine.specs.State.{at};
 ghost use Rattle.machine.specs.Execute as Execute;
+ghost use Rattle.machine.specs.State.{at};
 ghost use Rattle.machine.specs.Groups as Groups;
 ghost use Rattle.machine.specs.Perform.{perform, performed};
 
 use isa::ControlOp;
-use machine::{Deed, State, bus};
+use machine::{Deed, State};
+use memory::SIZE;
 use operand::results;
 
 // ST with another interrupt mask: LIMI, RSET and the entries.
@@ -20,71 +20,60 @@ pub fn masked(mask: u16, st: u16) -> u16
 }
 
 // LIMI.
-pub fn load_mask(bytes: &[u8], state: State) -> State
-    requires { Installed bytes.now }
-    ensures { (v : ℕ) → perform v Groups.load_mask (at state bytes.now) ≡ performed tt (at result bytes.now) }
+#[tactic(auto, using(machine::proofs::Bind::in_turn), unfolding(machine::specs::Groups::load_mask))]
+pub fn load_mask(state: &mut State, memory: &[u8; SIZE])
+    ensures { (v : ℕ) → perform v Groups.load_mask (at state.old memory.now) ≡ performed tt (at state.new memory.now) }
 {
-    let word = bus::fetch(bytes, state);
-    let s = word.state;
-    let st = s.st;
-    results::set_status(s, masked(word.value, st))
+    let word = state.fetch(memory);
+    results::set_status(state, masked(word, state.st));
 }
 
 // LWPI.
-pub fn load_workspace(bytes: &[u8], state: State) -> State
-    requires { Installed bytes.now }
-    ensures { (v : ℕ) → perform v Groups.load_workspace (at state bytes.now) ≡ performed tt (at result bytes.now) }
+#[tactic(auto, using(machine::proofs::Bind::in_turn), unfolding(machine::specs::Groups::load_workspace))]
+pub fn load_workspace(state: &mut State, memory: &[u8; SIZE])
+    ensures { (v : ℕ) → perform v Groups.load_workspace (at state.old memory.now) ≡ performed tt (at state.new memory.now) }
 {
-    let word = bus::fetch(bytes, state);
-    let s = word.state;
-    bus::set_wp(s, word.value)
+    let word = state.fetch(memory);
+    state.set_wp(word);
 }
 
 // STST.
-pub fn store_status(bytes: &mut [u8], state: State, n: u16) -> State
-    requires { Installed bytes.old }
-    ensures { (v : ℕ) → perform v (Groups.store_status n) (at state bytes.old) ≡ performed tt (at result bytes.new) }
+#[tactic(auto, using(machine::proofs::Bind::in_turn), unfolding(machine::specs::Groups::store_status))]
+pub fn store_status(state: &mut State, memory: &mut [u8; SIZE], n: u16)
+    ensures { (v : ℕ) → perform v (Groups.store_status n) (at state.old memory.old) ≡ performed tt (at state.new memory.new) }
 {
-    let st = state.st;
-    bus::set_register(bytes, state, n, st)
+    state.set_register(memory, n, state.st);
 }
 
 // STWP.
-pub fn store_workspace(bytes: &mut [u8], state: State, n: u16) -> State
-    requires { Installed bytes.old }
-    ensures { (v : ℕ) → perform v (Groups.store_workspace n) (at state bytes.old) ≡ performed tt (at result bytes.new) }
+#[tactic(auto, using(machine::proofs::Bind::in_turn), unfolding(machine::specs::Groups::store_workspace))]
+pub fn store_workspace(state: &mut State, memory: &mut [u8; SIZE], n: u16)
+    ensures { (v : ℕ) → perform v (Groups.store_workspace n) (at state.old memory.old) ≡ performed tt (at state.new memory.new) }
 {
-    let wp = state.wp;
-    bus::set_register(bytes, state, n, wp)
+    state.set_register(memory, n, state.wp);
 }
 
 // IDLE, RSET, RTWP, CKON, CKOF, LREX.
-pub fn command(bytes: &[u8], state: State, op: ControlOp) -> State
-    requires { Installed bytes.now }
-    ensures { (v : ℕ) → perform v (Groups.command op) (at state bytes.now) ≡ performed tt (at result bytes.now) }
+#[tactic(auto, using(machine::proofs::Bind::in_turn), unfolding(machine::specs::Groups::command))]
+pub fn command(state: &mut State, memory: &[u8; SIZE], op: ControlOp)
+    ensures { (v : ℕ) → perform v (Groups.command op) (at state.old memory.now) ≡ performed tt (at state.new memory.now) }
 {
-    let st = state.st;
-    let flags = state.flags;
     match op {
-        ControlOp::Idle => bus::set_flags(state, bits::put(flags, State::IDLE, true)),
-        ControlOp::Rset => results::set_status(state, masked(0, st)),
-        ControlOp::Rtwp => switch_ops::return_from(bytes, state),
-        ControlOp::Ckon => state,
-        ControlOp::Ckof => state,
-        ControlOp::Lrex => state,
+        ControlOp::Idle => state.set_flags(bits::put(state.flags, State::IDLE, true)),
+        ControlOp::Rset => results::set_status(state, masked(0, state.st)),
+        ControlOp::Rtwp => switch_ops::return_from(state, memory),
+        ControlOp::Ckon | ControlOp::Ckof | ControlOp::Lrex => {}
     }
 }
 
 // RTWP returns; the other control forms are ordinary.
+#[tactic(auto, unfolding(machine::specs::Execute::command_deed))]
 pub fn command_deed(op: ControlOp) -> Deed
     ensures { result ≡ Execute.command_deed op }
 {
     match op {
-        ControlOp::Idle => Deed::Ordinary,
-        ControlOp::Rset => Deed::Ordinary,
         ControlOp::Rtwp => Deed::Returned,
-        ControlOp::Ckon => Deed::Ordinary,
-        ControlOp::Ckof => Deed::Ordinary,
-        ControlOp::Lrex => Deed::Ordinary,
+        ControlOp::Idle | ControlOp::Rset | ControlOp::Ckon | ControlOp::Ckof | ControlOp::Lrex =>
+            Deed::Ordinary,
     }
 }

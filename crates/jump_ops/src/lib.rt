@@ -7,16 +7,14 @@ ghost use Rattle.machine.specs.Groups as Groups;
 ghost use Rattle.machine.specs.Perform.{perform, performed};
 
 use isa::JumpOp;
-use machine::{State, bus};
+use machine::State;
 
 // A jump where its condition holds.
-pub fn jump(state: State, op: JumpOp, displacement: u16) -> State
-    ensures { (v : ℕ) (m : List ℕ) → perform v (Groups.jump op displacement) (at state m) ≡ performed tt (at result m) }
+#[tactic(auto, using(machine::proofs::Bind::in_turn), unfolding(machine::specs::Groups::jump))]
+pub fn jump(state: &mut State, op: JumpOp, displacement: u16)
+    ensures { (v : ℕ) (m : List ℕ) → perform v (Groups.jump op displacement) (at state.old m) ≡ performed tt (at state.new m) }
 {
-    let st = state.st;
-    if alu::status::jumps(op, st) {
-        let pc = state.pc;
-        return bus::set_pc(state, isa::target(pc, displacement));
+    if alu::status::jumps(op, state.st) {
+        state.set_pc(isa::target(state.pc, displacement));
     }
-    state
 }

@@ -2,43 +2,36 @@
 #![tactic(auto)]
 
 ghost use Rattle.std.specs.Prelude.{◌≡◌, ℕ};
-ghost use Rattle.memory.specs.Memory.{Installed};
 ghost use Rattle.machine.specs.State.{at};
 ghost use Rattle.machine.specs.Groups as Groups;
 ghost use Rattle.machine.specs.Perform.{perform, performed};
 
 use alu::shifts;
 use isa::ShiftOp;
-use machine::bus::Loaded;
-use machine::{State, bus};
-use memory::Width;
+use machine::State;
+use memory::{SIZE, Width};
 use operand::results;
 
 // The count as coded, or R0 where that is 0.
-fn shift_count(bytes: &[u8], state: State, count: u16) -> Loaded
-    requires { Installed bytes.now }
-    ensures { (v : ℕ) → perform v (Groups.shift_count count) (at state bytes.now) ≡ performed result.value (at result.state bytes.now) }
+#[tactic(auto, using(machine::proofs::Bind::in_turn), unfolding(machine::specs::Groups::shift_count))]
+fn shift_count(state: &mut State, memory: &[u8; SIZE], count: u16) -> u16
+    ensures { (v : ℕ) → perform v (Groups.shift_count count) (at state.old memory.now) ≡ performed result (at state.new memory.now) }
 {
     if count == 0 {
-        return bus::register(bytes, state, 0);
-    }
-    Loaded {
-        value: count,
-        state,
+        state.register(memory, 0)
+    } else {
+        count
     }
 }
 
 // The register's value, the count, then the result.
-pub fn shift(bytes: &mut [u8], state: State, op: ShiftOp, n: u16, count: u16) -> State
-    requires { Installed bytes.old }
-    ensures { (v : ℕ) → perform v (Groups.shift op n count) (at state bytes.old) ≡ performed tt (at result bytes.new) }
+#[tactic(auto, using(machine::proofs::Bind::in_turn), unfolding(machine::specs::Groups::shift))]
+pub fn shift(state: &mut State, memory: &mut [u8; SIZE], op: ShiftOp, n: u16, count: u16)
+    ensures { (v : ℕ) → perform v (Groups.shift op n count) (at state.old memory.old) ≡ performed tt (at state.new memory.new) }
 {
-    let old = bus::register(bytes, state, n);
-    let s = old.state;
-    let by = shift_count(bytes, s, count);
-    let s = by.state;
-    let wp = s.wp;
-    let st = s.st;
-    let outcome = shifts::shifted(op, old.value, by.value, st);
-    results::conclude(bytes, s, Width::Word, bus::register_at(wp, n), outcome)
+    let old = state.register(memory, n);
+    let by = shift_count(state, memory, count);
+    let to = state.register_at(n);
+    let outcome = shifts::shifted(op, old, by, state.st);
+    results::conclude(state, memory, Width::Word, to, outcome);
 }

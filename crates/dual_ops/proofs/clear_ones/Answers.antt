@@ -1,8 +1,0 @@
--- The old value is loaded, and what is left of it is judged and stored.
-use Rattle.machine.proofs.Bind.{perform_bind}
-use Rattle.machine.specs.Groups.{dual_effect}
-use Rattle.dual_ops.proofs.clear_ones.Goals as goal
-
-pub returns : goal.returns
-unfolding dual_effect
-returns c v = rw (perform_bind, c.load-old.ensures v, ← c.without-value.ensures) (c.conclude_judged.ensures v)
