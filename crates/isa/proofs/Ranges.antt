@@ -35,3 +35,6 @@ module _ (w : ℕ) where
   unfolding decoded
   from_0 l =
       rw (lt-leb 0x4000 w (omega arith), lt-leb 0x2000 w (omega arith), lt-leb 0x1000 w (omega arith), lt-leb 0x0800 w (omega arith), lt-leb 0x0400 w (omega arith), lt-leb 0x0200 w l)
+
+-- whichever range a word is of
+pub ruleset ranges = (from_4000, from_2000, from_1000, from_0800, from_0400, from_0200, from_0)

@@ -13,7 +13,6 @@ use memory::{SIZE, Width};
 use operand::results;
 
 // A context switch: both vector words are read, then old WP, PC and ST are stored in the new workspace.
-#[tactic(auto, using(machine::proofs::Bind::in_turn), unfolding(machine::specs::Groups::switch))]
 pub fn switch(state: &mut State, memory: &mut [u8; SIZE], vector: u16)
     ensures { (v : ℕ) → perform v (Groups.switch vector) (at state.old memory.old) ≡ performed tt (at state.new memory.new) }
 {
@@ -45,7 +44,7 @@ fn xop_vector(number: u16) -> u16
 }
 
 // XOP: the vector is the number's; X is set, and the operand's address is in the new R11.
-#[tactic(auto, using(machine::proofs::Bind::in_turn), unfolding(machine::specs::Groups::switch_by_number))]
+#[tactic(auto, using(machine::proofs::Bind::in_turn, crate::proofs::Vectors::switch_wraps), unfolding(machine::specs::Groups::switch_by_number))]
 pub fn switch_by_number(state: &mut State, memory: &mut [u8; SIZE], operand: Operand, number: u16)
     ensures { (v : ℕ) → perform v (Groups.switch_by_number operand number) (at state.old memory.old) ≡ performed tt (at state.new memory.new) }
 {
@@ -57,7 +56,6 @@ pub fn switch_by_number(state: &mut State, memory: &mut [u8; SIZE], operand: Ope
 }
 
 // RTWP: all three words are read before any is loaded.
-#[tactic(auto, using(machine::proofs::Bind::in_turn), unfolding(machine::specs::Groups::return))]
 pub fn return_from(state: &mut State, memory: &[u8; SIZE])
     ensures { (v : ℕ) → perform v Groups.return (at state.old memory.now) ≡ performed tt (at state.new memory.now) }
 {

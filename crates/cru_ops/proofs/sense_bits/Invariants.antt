@@ -1,18 +1,14 @@
+use Prim.Native.Nat.{ℕ, ◌-◌, ◌^◌, ◌<◌}
 use mathlib.Core.Path.{◌≡◌}
-use Rattle.cru_ops.proofs.Transfers.{gathered}
-use Prim.Native.Nat.{ℕ, ◌-◌, ◌^◌, ◌<◌, ◌≤◌}
 use mathlib.Core.List.{List}
 use Rattle.machine.specs.State.{at}
 use Rattle.machine.specs.Perform.{perform}
 use Rattle.machine.specs.Groups.{sense_bits}
+use Rattle.cru_ops.proofs.Transfers.{gathered}
 use Rattle.cru_ops.proofs.sense_bits.Given as goal
 
 abbrev pub invariant-loop-n : goal.invariant-loop-n
 invariant-loop-n l =
-    (l.n ≤ l.count)
-    × (l.value < 2 ^ l.n)
+    (l.value < 2 ^ l.n)
     × ((m : List ℕ)
-    → perform l.levels (sense_bits l.count l.initial.from) (at l.initial.s m) ≡ gathered l.value l.n (perform l.levels (sense_bits (l.count - l.n) l.from) (at l.s m)))
-
-abbrev pub decreases-loop-n : goal.decreases-loop-n
-decreases-loop-n l = l.count - l.n
+    → perform l.levels (sense_bits l.count l.initial.from) (at l.initial.state m) ≡ gathered l.value l.n (perform l.levels (sense_bits (l.count - l.n) l.from) (at l.state m)))
