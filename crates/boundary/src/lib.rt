@@ -2,100 +2,63 @@
 #![tactic(auto)]
 
 ghost use Rattle.std.specs.Prelude.{◌≡◌, ℕ};
-ghost use Rattle.memory.specs.Memory.{Installed};
 ghost use Rattle.machine.specs.State.{at};
 ghost use Rattle.machine.specs.Step as Step;
 ghost use Rattle.machine.specs.Answer as Answer;
 ghost use Rattle.machine.specs.Perform.{perform, performed};
 
-use machine::{Signal, State, StepAnswer, bus};
+use machine::{Signal, State, StepAnswer};
+use memory::SIZE;
 use operand::results;
 
-// What a step answers, and the state after it.
-#[derive(Clone, Copy)]
-pub struct Stepped {
-    pub answer: StepAnswer,
-    pub state: State,
-}
-
 // An entry: the context switch, then ST and the flags.
-pub fn enter(bytes: &mut [u8], state: State, signal: Signal) -> State
-    requires { Installed bytes.old }
-    ensures { (v : ℕ) → perform v (Step.enter (Step.vector signal) (Step.entry_status signal)) (at state bytes.old) ≡ performed tt (at result bytes.new) }
+#[tactic(auto, using(machine::proofs::Bind::in_turn), unfolding(machine::specs::Step::enter))]
+pub fn enter(state: &mut State, memory: &mut [u8; SIZE], signal: Signal)
+    ensures { (v : ℕ) → perform v (Step.enter (Step.vector signal) (Step.entry_status signal)) (at state.old memory.old) ≡ performed tt (at state.new memory.new) }
 {
-    let switched = switch_ops::switch(bytes, state, sampling::vector(signal));
-    let st = switched.st;
-    let judged = results::set_status(switched, sampling::entry_status(signal, st));
-    let flags = judged.flags;
-    bus::set_flags(judged, bits::put(flags, State::IDLE, false))
+    switch_ops::switch(state, memory, sampling::vector(signal));
+    results::set_status(state, sampling::entry_status(signal, state.st));
+    state.set_flags(bits::put(state.flags, State::IDLE, false));
 }
 
 // No entry: an idle machine does nothing; any other clears no-sample and executes one instruction.
-fn proceed(bytes: &mut [u8], state: State, levels: u32) -> Stepped
-    requires { Installed bytes.old }
-    ensures { Answer.as_told state.pc (perform levels Step.proceed (at state bytes.old)) ≡ performed result.answer (at result.state bytes.new) }
+#[tactic(auto, using(machine::proofs::Bind::in_turn), unfolding(machine::specs::Step::proceed, machine::specs::Answer::as_told, machine::specs::Answer::told))]
+fn proceed(state: &mut State, memory: &mut [u8; SIZE], levels: u32) -> StepAnswer
+    ensures { Answer.as_told state.old.pc (perform levels Step.proceed (at state.old memory.old)) ≡ performed result (at state.new memory.new) }
 {
+    if bits::bit(state.flags as u32, State::IDLE) {
+        return StepAnswer::Idle;
+    }
     let pc = state.pc;
-    let flags = state.flags;
-    if bits::bit(flags as u32, State::IDLE) {
-        return Stepped {
-            answer: StepAnswer::Idle,
-            state,
-        };
-    }
-    let sampled = bus::set_flags(state, bits::put(flags, State::NO_SAMPLE, false));
-    let word = bus::fetch(bytes, sampled);
-    let fetched = word.state;
-    let executed = cpu::perform(bytes, fetched, levels, word.value, cpu::ALLOWANCE);
-    let deed = executed.deed;
-    let after = executed.state;
-    Stepped {
-        answer: step_answers::told_word(pc, deed),
-        state: after,
-    }
+    state.set_flags(bits::put(state.flags, State::NO_SAMPLE, false));
+    let word = state.fetch(memory);
+    let deed = cpu::perform(state, memory, levels, word, cpu::ALLOWANCE);
+    step_answers::told_word(pc, deed)
 }
 
 // What happens at a boundary where this is taken.
-fn boundary(bytes: &mut [u8], state: State, levels: u32, signal: Signal) -> Stepped
-    requires { Installed bytes.old }
-    ensures { Answer.as_told state.pc (perform levels (Step.boundary signal) (at state bytes.old)) ≡ performed result.answer (at result.state bytes.new) }
+#[tactic(auto, using(machine::proofs::Bind::in_turn), unfolding(machine::specs::Step::boundary, machine::specs::Answer::as_told, machine::specs::Answer::told))]
+fn boundary(state: &mut State, memory: &mut [u8; SIZE], levels: u32, signal: Signal) -> StepAnswer
+    ensures { Answer.as_told state.old.pc (perform levels (Step.boundary signal) (at state.old memory.old)) ≡ performed result (at state.new memory.new) }
 {
-    match signal {
-        Signal::Reset => {
-            let entered = enter(bytes, state, Signal::Reset);
-            Stepped {
-                answer: StepAnswer::Reset,
-                state: entered,
-            }
-        }
-        Signal::Load => {
-            let entered = enter(bytes, state, Signal::Load);
-            Stepped {
-                answer: StepAnswer::Load,
-                state: entered,
-            }
-        }
-        Signal::Level(k) => {
-            let entered = enter(bytes, state, Signal::Level(k));
-            Stepped {
-                answer: StepAnswer::Level(k),
-                state: entered,
-            }
-        }
-        Signal::Nothing => proceed(bytes, state, levels),
-    }
+    let answer = match signal {
+        Signal::Reset => StepAnswer::Reset,
+        Signal::Load => StepAnswer::Load,
+        Signal::Level(k) => StepAnswer::Level(k),
+        Signal::Nothing => return proceed(state, memory, levels),
+    };
+    enter(state, memory, signal);
+    answer
 }
 
 // One step with a pin record.
-pub fn step(bytes: &mut [u8], state: State, word: u32) -> Stepped
-    requires { Installed bytes.old }
-    ensures { Answer.answered word (at state bytes.old) ≡ performed result.answer (at result.state bytes.new) }
+#[tactic(auto, using(machine::proofs::Bind::in_turn), unfolding(machine::specs::Step::step, machine::specs::Step::stepping))]
+pub fn step(state: &mut State, memory: &mut [u8; SIZE], word: u32) -> StepAnswer
+    ensures { Answer.answered word (at state.old memory.old) ≡ performed result (at state.new memory.new) }
 {
     let record = psi::split(word);
-    let before = state.psi;
-    let psi = before.advance(record.cycles);
-    let code = psi.code(record.levels);
-    let clocked = state.with_psi(psi);
-    let taken = sampling::admitted(clocked, sampling::signal(code));
-    boundary(bytes, clocked, record.levels, taken)
+    state.psi = state.psi.advance(record.cycles);
+    let code = state.psi.code(record.levels);
+    let taken = sampling::admitted(*state, sampling::signal(code));
+    boundary(state, memory, record.levels, taken)
 }

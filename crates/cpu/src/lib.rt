@@ -2,70 +2,63 @@
 #![tactic(auto)]
 
 ghost use Rattle.std.specs.Prelude.{◌≡◌, ℕ};
-ghost use Rattle.memory.specs.Memory.{Installed};
 ghost use Rattle.machine.specs.State.{at};
 ghost use Rattle.machine.specs.Execute as Execute;
 ghost use Rattle.machine.specs.Perform.{perform, performed};
 ghost use Rattle.cpu.specs.Resolve as Resolve;
 
-use machine::{Executed, State, bus};
-use memory::Width;
+use machine::{Deed, State};
+use memory::{SIZE, Width};
 
 // How many X one step may execute; the ninth is read as an unassigned word.
 pub const ALLOWANCE: u16 = 8;
 
-// The word that is performed in the end, and the state then.
-#[derive(Clone, Copy)]
-struct Resolved {
-    word: u16,
-    state: State,
-}
-
 // X: goes on with the word at its operand's address and an allowance lower by one; with none left X is the word itself.
-#[cycle(execute_execute_again)]
-fn execute_again(bytes: &mut [u8], state: State, word: u16, allowance: u16) -> Resolved
-    requires { Installed bytes.old }
-    ensures { (v : ℕ) → perform v (Resolve.again allowance word) (at state bytes.old) ≡ performed result.word (at result.state bytes.new) }
+#[cycle(executing)]
+fn execute_again(state: &mut State, memory: &mut [u8; SIZE], word: u16, allowance: u16) -> u16
+    ensures { (v : ℕ) → perform v (Resolve.again allowance word) (at state.old memory.old) ≡ performed result (at state.new memory.new) }
 {
     if allowance == 0 {
-        return Resolved { word, state };
+        return word;
     }
-    let found = operand::address(bytes, state, Width::Word, isa::source(word));
-    let there = found.state;
-    let next = bus::load(bytes, there, Width::Word, found.value);
-    let after = next.state;
-    execute(bytes, after, next.value, allowance - 1)
+    let there = operand::address(state, memory, Width::Word, isa::source(word));
+    let next = state.load(memory, Width::Word, there);
+    execute(state, memory, next, allowance - 1)
 }
 
-// Goes on as long as the word is an X; `allowance` is how many more X the step may execute.
-#[cycle(execute_execute_again)]
-fn execute(bytes: &mut [u8], state: State, word: u16, allowance: u16) -> Resolved
-    requires { Installed bytes.old }
-    ensures { (v : ℕ) → perform v (Resolve.resolve allowance word) (at state bytes.old) ≡ performed result.word (at result.state bytes.new) }
+// Goes on as long as the word is an X; `allowance` is how many more X the step may execute. Answers the word that is performed in the end.
+#[cycle(executing)]
+fn execute(state: &mut State, memory: &mut [u8; SIZE], word: u16, allowance: u16) -> u16
+    ensures { (v : ℕ) → perform v (Resolve.resolve allowance word) (at state.old memory.old) ≡ performed result (at state.new memory.new) }
 {
     if isa::is_x(word) {
-        return execute_again(bytes, state, word, allowance);
+        return execute_again(state, memory, word, allowance);
     }
-    Resolved { word, state }
+    word
 }
 
 // The same, asked before the call: `execute` is recursive, so it stays a call, and a word that is no X goes on without one.
-fn last_word(bytes: &mut [u8], state: State, word: u16, allowance: u16) -> Resolved
-    requires { Installed bytes.old }
-    ensures { (v : ℕ) → perform v (Resolve.resolve allowance word) (at state bytes.old) ≡ performed result.word (at result.state bytes.new) }
+#[tactic(auto, using(machine::proofs::Bind::in_turn), unfolding(crate::specs::Resolve::resolve))]
+fn last_word(state: &mut State, memory: &mut [u8; SIZE], word: u16, allowance: u16) -> u16
+    ensures { (v : ℕ) → perform v (Resolve.resolve allowance word) (at state.old memory.old) ≡ performed result (at state.new memory.new) }
 {
     if isa::is_x(word) {
-        return execute(bytes, state, word, allowance);
+        return execute(state, memory, word, allowance);
     }
-    Resolved { word, state }
+    word
 }
 
 // Executes a word, with so many X allowed.
-pub fn perform(bytes: &mut [u8], state: State, levels: u32, word: u16, allowance: u16) -> Executed
-    requires { Installed bytes.old }
-    ensures { perform levels (Execute.execute allowance word) (at state bytes.old) ≡ performed result.deed (at result.state bytes.new) }
+#[tactic(auto, using(machine::proofs::Bind::in_turn, crate::proofs::Laws::resolves), unfolding(machine::specs::Execute::execute))]
+pub fn perform(
+    state: &mut State,
+    memory: &mut [u8; SIZE],
+    levels: u32,
+    word: u16,
+    allowance: u16,
+) -> Deed
+    ensures { perform levels (Execute.execute allowance word) (at state.old memory.old) ≡ performed result (at state.new memory.new) }
 {
-    let found = last_word(bytes, state, word, allowance);
-    let after = found.state;
-    instructions::perform(bytes, after, levels, found.word)
+    let last = last_word(state, memory, word, allowance);
+    instructions::perform(state, memory, levels, last)
 }

@@ -1,7 +1,7 @@
 // What a request code stands for at a step's boundary, what of it is taken, and the vector and ST of an entry.
 #![tactic(auto)]
 
-ghost use Rattle.std.specs.Prelude.{◌≡◌, ◌-◌};
+ghost use Rattle.std.specs.Prelude.{◌≡◌};
 ghost use Rattle.machine.specs.State.{registers};
 ghost use Rattle.machine.specs.Step as Step;
 
@@ -14,57 +14,37 @@ const LOAD: u16 = 2;
 // LOAD's vector; the vectors of reset and of the levels go up from 0, two words each.
 const LOAD_VECTOR: u16 = 0x3FFC;
 
-const VECTOR_BYTES: u32 = 4;
+const VECTOR_BYTES: u16 = 4;
 
 // What a request code stands for.
+#[tactic(auto, using(std::proofs::lemmas::Bool::Decides::nat_tests), unfolding(machine::specs::Step::signal))]
 pub fn signal(code: u16) -> Signal
     ensures { result ≡ Step.signal code }
 {
     if code < LOAD {
-        return Signal::Reset;
+        Signal::Reset
+    } else if code == LOAD {
+        Signal::Load
+    } else if code < Psi::NO_REQUEST {
+        Signal::Level(code - LOAD)
+    } else {
+        Signal::Nothing
     }
-    if code == LOAD {
-        return Signal::Load;
-    }
-    if code < Psi::NO_REQUEST {
-        return Signal::Level(code - LOAD);
-    }
-    Signal::Nothing
 }
 
-// LOAD unless the no-sample flag is set.
-fn admitted_load(state: State) -> Signal
-    ensures { result ≡ Step.admitted (registers state) Signal.Load }
-{
-    if bits::bit(state.flags as u32, State::NO_SAMPLE) {
-        return Signal::Nothing;
-    }
-    Signal::Load
-}
-
-// Level `k` unless the no-sample flag is set or the mask, ST's low four bits, is lower.
-fn admitted_level(state: State, k: u16) -> Signal
-    ensures { result ≡ Step.admitted (registers state) (Signal.Level k) }
-{
-    if bits::bit(state.flags as u32, State::NO_SAMPLE) {
-        return Signal::Nothing;
-    }
-    let mask = state.st % 16;
-    if k <= mask {
-        return Signal::Level(k);
-    }
-    Signal::Nothing
-}
-
-// What is taken of what the code stands for.
+// What is taken of what the code stands for: LOAD and levels only where the no-sample flag is not set, and a level where the mask, ST's low
+// four bits, is not lower.
+#[tactic(auto, using(std::proofs::lemmas::Bool::Decides::nat_tests), unfolding(machine::specs::Step::admitted))]
 pub fn admitted(state: State, signal: Signal) -> Signal
     ensures { result ≡ Step.admitted (registers state) signal }
 {
+    let sampled = !bits::bit(state.flags as u32, State::NO_SAMPLE);
+    let mask = state.st % 16;
     match signal {
         Signal::Reset => Signal::Reset,
-        Signal::Load => admitted_load(state),
-        Signal::Level(k) => admitted_level(state, k),
-        Signal::Nothing => Signal::Nothing,
+        Signal::Load if sampled => Signal::Load,
+        Signal::Level(k) if sampled && k <= mask => Signal::Level(k),
+        _ => Signal::Nothing,
     }
 }
 
@@ -73,21 +53,10 @@ pub fn vector(signal: Signal) -> u16
     ensures { result ≡ Step.vector signal }
 {
     match signal {
-        Signal::Reset => 0,
         Signal::Load => LOAD_VECTOR,
-        Signal::Level(k) => (VECTOR_BYTES * (k as u32) % 65536) as u16,
-        Signal::Nothing => 0,
+        Signal::Level(k) => VECTOR_BYTES.wrapping_mul(k),
+        Signal::Reset | Signal::Nothing => 0,
     }
-}
-
-// One less, and 0 for 0.
-fn lower(k: u16) -> u16
-    ensures { result ≡ k - 1 }
-{
-    if k == 0 {
-        return 0;
-    }
-    k - 1
 }
 
 // ST after an entry: reset makes it 0, LOAD the mask 0, a level the mask one less than itself.
@@ -97,7 +66,7 @@ pub fn entry_status(signal: Signal, st: u16) -> u16
     match signal {
         Signal::Reset => 0,
         Signal::Load => control_ops::masked(0, st),
-        Signal::Level(k) => control_ops::masked(lower(k), st),
+        Signal::Level(k) => control_ops::masked(k.saturating_sub(1), st),
         Signal::Nothing => st,
     }
 }

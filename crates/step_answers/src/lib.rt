@@ -7,33 +7,29 @@ ghost use Rattle.machine.specs.Answer as Answer;
 use machine::{Deed, StepAnswer};
 
 // What is told of an executed word, in a step that began with this PC.
+#[tactic(auto, unfolding(machine::specs::Answer::told_word))]
 pub fn told_word(pc: u16, deed: Deed) -> StepAnswer
     ensures { result ≡ Answer.told_word pc deed }
 {
     match deed {
-        Deed::Ordinary => StepAnswer::Instruction,
         Deed::Unassigned => StepAnswer::Unassigned(pc),
-        Deed::Switched => StepAnswer::Instruction,
-        Deed::Returned => StepAnswer::Instruction,
+        Deed::Ordinary | Deed::Switched | Deed::Returned => StepAnswer::Instruction,
     }
 }
 
 // 1 where a step met an unassigned word, else 0.
+#[tactic(auto, unfolding(machine::specs::Answer::missed))]
 pub fn missed(answer: StepAnswer) -> usize
     ensures { result ≡ Answer.missed answer }
 {
     match answer {
-        StepAnswer::Nothing => 0,
-        StepAnswer::Reset => 0,
-        StepAnswer::Load => 0,
-        StepAnswer::Level(_) => 0,
-        StepAnswer::Instruction => 0,
-        StepAnswer::Idle => 0,
         StepAnswer::Unassigned(_) => 1,
+        _ => 0,
     }
 }
 
 // The number that stands for an answer.
+#[tactic(auto, unfolding(machine::specs::Answer::number))]
 pub fn number(answer: StepAnswer) -> u16
     ensures { result ≡ Answer.number answer }
 {
@@ -49,16 +45,13 @@ pub fn number(answer: StepAnswer) -> u16
 }
 
 // The number that goes with an answer: the level, or the PC before the step; else 0.
+#[tactic(auto, unfolding(machine::specs::Answer::value))]
 pub fn value(answer: StepAnswer) -> u16
     ensures { result ≡ Answer.value answer }
 {
     match answer {
-        StepAnswer::Nothing => 0,
-        StepAnswer::Reset => 0,
-        StepAnswer::Load => 0,
         StepAnswer::Level(k) => k,
-        StepAnswer::Instruction => 0,
-        StepAnswer::Idle => 0,
         StepAnswer::Unassigned(pc) => pc,
+        _ => 0,
     }
 }

@@ -4,7 +4,7 @@ use mathlib.Core.Path.{◌≡◌}
 use native.Mathlib.Omega.{arith}
 use Rattle.machine.proofs.Bind.{perform_bind, perform_done}
 use Rattle.cpu.specs.Resolve.{resolve, again}
-use Rattle.cpu.proofs.+execute_execute_again.Goals as goal
+use Rattle.cpu.proofs.+executing.Goals as goal
 
 pub execute-returns-then-is_x : goal.execute-returns-then-is_x
 unfolding resolve
@@ -22,4 +22,4 @@ pub execute_again-returns : goal.execute_again-returns
 unfolding again resolve
 execute_again-returns t c v =
     let one_more : c.args.allowance ≡ suc (c.args.allowance - 1) = omega arith in
-    rw (one_more, perform_bind, perform_bind, ← c.source.ensures, c.address-found.ensures _, c.load-next.ensures _) (c.execute.ensures _)
+    rw (one_more, perform_bind, perform_bind, ← c.source.ensures, c.address-there.ensures _, c.load-next.ensures _) (c.execute.ensures _)

@@ -1,6 +1,6 @@
 -- X goes on with a smaller allowance, so twice the allowance falls; every other word is the last.
 use Prim.Native.Nat.{◌+◌, ◌*◌}
-use Rattle.cpu.proofs.+execute_execute_again.Given as goal
+use Rattle.cpu.proofs.+executing.Given as goal
 
 abbrev pub decreases-execute : goal.decreases-execute
 decreases-execute l = 2 * l.allowance + 1
