@@ -1,8 +1,9 @@
--- A run that has ended, from what the code answers.
+-- A run that has ended, from what the code says of it.
 use Rattle.std.specs.Prelude.{ℕ, List}
 use Rattle.machine.specs.State.{at}
-use Rattle.machine.specs.Run.{Ran, RunAnswer}
+use Rattle.machine.specs.declared.Ran.{Ran as Did}
+use Rattle.machine.specs.Run.{Ran}
 
--- a run that has ended with this answer and this memory
-abbrev pub ended : RunAnswer → List ℕ → Ran
+-- a run that did this and left this memory
+abbrev pub ended : Did → List ℕ → Ran
 ended r m = record { machine = at r.state m; steps = r.steps; unassigned = r.unassigned; last = r.last }

@@ -2,35 +2,37 @@
 #![tactic(auto)]
 
 ghost use Rattle.std.specs.Prelude.{◌≡◌};
+ghost use Rattle.refusals.specs.Refusals as Refusals;
 ghost use Rattle.machine.specs.Run as Run;
 
 use machine::State;
+use refusals::Refusal;
 
-// The refusal of a run, in the order checked: 1 memory's size, 2 the state, 3 more steps than records; 0 where it is accepted.
-pub fn run_refusal(size: usize, state: State, records: usize, steps: usize) -> u16
-    ensures { result ≡ Run.run_refusal size state records steps }
+// The refusal of a run, in the order checked: memory's size, the state, more steps than records.
+#[tactic(auto, using(std::proofs::lemmas::Bool::Decides::nat_tests), unfolding(machine::specs::Run::run_refusal, refusals::specs::Refusals::number_of, refusals::specs::Refusals::number))]
+pub fn check_run(size: usize, state: State, records: usize, steps: usize) -> Result<(), Refusal>
+    ensures { Refusals.number_of result ≡ Run.run_refusal size state records steps }
 {
-    let sized = size == memory::SIZE;
-    let formed = state.well_formed();
-    let short = records < steps;
-    if !sized {
-        return 1;
+    if size != memory::SIZE {
+        return Err(Refusal::MemorySize);
     }
-    if !formed {
-        return 2;
+    if !state.well_formed() {
+        return Err(Refusal::State);
     }
-    if short {
-        return 3;
+    if records < steps {
+        return Err(Refusal::Records);
     }
-    0
+    Ok(())
 }
 
-// The refusal of power up: 1 memory's size; 0 where it is accepted.
-pub fn power_up_refusal(size: usize) -> u16
-    ensures { result ≡ Run.power_up_refusal size }
+// The refusal of power up: memory's size.
+#[tactic(auto, using(std::proofs::lemmas::Bool::Decides::nat_tests), unfolding(machine::specs::Run::power_up_refusal, refusals::specs::Refusals::number_of, refusals::specs::Refusals::number))]
+pub fn check_power_up(size: usize) -> Result<(), Refusal>
+    ensures { Refusals.number_of result ≡ Run.power_up_refusal size }
 {
     if size == memory::SIZE {
-        return 0;
+        Ok(())
+    } else {
+        Err(Refusal::MemorySize)
     }
-    1
 }
