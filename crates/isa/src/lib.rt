@@ -6,7 +6,6 @@ ghost use Rattle.isa.specs.Isa as Isa;
 ghost use Rattle.isa.specs.Words as Words;
 
 use memory::Width;
-use std::num;
 
 // A general operand: addressing mode 0 to 3 and register 0 to 15.
 #[derive(Clone, Copy)]
@@ -179,6 +178,7 @@ pub enum Instruction {
 }
 
 // The general operand in the low six bits of a word.
+#[tactic(auto, using(std::proofs::lemmas::Bool::Decides::nat_tests), unfolding(crate::specs::Isa::source))]
 pub fn source(word: u16) -> Operand
     ensures { result ≡ Isa.source word }
 {
@@ -189,6 +189,7 @@ pub fn source(word: u16) -> Operand
 }
 
 // The general operand in the six bits above those.
+#[tactic(auto, using(std::proofs::lemmas::Bool::Decides::nat_tests), unfolding(crate::specs::Isa::destination))]
 pub fn destination(word: u16) -> Operand
     ensures { result ≡ Isa.destination word }
 {
@@ -196,6 +197,7 @@ pub fn destination(word: u16) -> Operand
 }
 
 // The operation of a word from 4000 on.
+#[tactic(auto, using(std::proofs::lemmas::Bool::Decides::nat_tests), unfolding(crate::specs::Isa::dual_operation))]
 pub fn dual_operation(code: u16) -> DualOp
     ensures { result ≡ Isa.dual_operation code }
 {
@@ -210,6 +212,7 @@ pub fn dual_operation(code: u16) -> DualOp
 }
 
 // The width of a word from 4000 on.
+#[tactic(auto, using(std::proofs::lemmas::Bool::Decides::nat_tests), unfolding(crate::specs::Isa::dual_width))]
 pub fn dual_width(word: u16) -> Width
     ensures { result ≡ Isa.dual_width word }
 {
@@ -221,6 +224,7 @@ pub fn dual_width(word: u16) -> Width
 }
 
 // A word from 4000 to FFFF.
+#[tactic(auto, using(std::proofs::lemmas::Bool::Decides::nat_tests), unfolding(crate::specs::Isa::dual))]
 fn dual(word: u16) -> Instruction
     ensures { result ≡ Isa.dual word }
 {
@@ -233,6 +237,7 @@ fn dual(word: u16) -> Instruction
 }
 
 // The operation of a word from 2000 to 3FFF that has a register.
+#[tactic(auto, using(std::proofs::lemmas::Bool::Decides::nat_tests), unfolding(crate::specs::Isa::register_operation))]
 pub fn register_operation(code: u16) -> RegisterOp
     ensures { result ≡ Isa.register_operation code }
 {
@@ -246,13 +251,13 @@ pub fn register_operation(code: u16) -> RegisterOp
 }
 
 // A word from 2000 to 3FFF.
+#[tactic(auto, using(std::proofs::lemmas::Bool::Decides::nat_tests), unfolding(crate::specs::Isa::with_register))]
 fn with_register(word: u16) -> Instruction
     ensures { result ≡ Isa.with_register word }
 {
     let operand = source(word);
     let number = word / 64 % 16;
-    let code = word / 0x400 * 0x400;
-    match code {
+    match word / 0x400 * 0x400 {
         0x2C00 => Instruction::Xop {
             source: operand,
             number,
@@ -267,7 +272,7 @@ fn with_register(word: u16) -> Instruction
             operand,
             count: number,
         },
-        _ => Instruction::Register {
+        code => Instruction::Register {
             op: register_operation(code),
             source: operand,
             register: number,
@@ -276,6 +281,7 @@ fn with_register(word: u16) -> Instruction
 }
 
 // The jump of a word from 1000 to 1CFF.
+#[tactic(auto, using(std::proofs::lemmas::Bool::Decides::nat_tests), unfolding(crate::specs::Isa::jump_operation))]
 pub fn jump_operation(code: u16) -> JumpOp
     ensures { result ≡ Isa.jump_operation code }
 {
@@ -297,6 +303,7 @@ pub fn jump_operation(code: u16) -> JumpOp
 }
 
 // The access to a CRU bit of a word from 1D00 to 1FFF.
+#[tactic(auto, using(std::proofs::lemmas::Bool::Decides::nat_tests), unfolding(crate::specs::Isa::bit_operation))]
 pub fn bit_operation(code: u16) -> BitOp
     ensures { result ≡ Isa.bit_operation code }
 {
@@ -308,18 +315,20 @@ pub fn bit_operation(code: u16) -> BitOp
 }
 
 // Where a jump goes: a signed displacement of words from `pc`, the address after it; from 80h on it is 100h words less.
+#[tactic(auto, using(std::proofs::lemmas::Bool::Decides::nat_tests), unfolding(crate::specs::Isa::target, bits::specs::Bits::signed_byte))]
 pub fn target(pc: u16, displacement: u16) -> u16
     ensures { result ≡ Isa.target pc displacement }
 {
-    let ahead = num::wrapping_add_u16(pc, num::wrapping_add_u16(displacement, displacement));
+    let ahead = pc.wrapping_add(displacement.wrapping_mul(2));
     if displacement < 0x80 {
         ahead
     } else {
-        num::wrapping_sub_u16(ahead, 0x200)
+        ahead.wrapping_sub(0x200)
     }
 }
 
 // A word from 1000 to 1FFF.
+#[tactic(auto, using(std::proofs::lemmas::Bool::Decides::nat_tests), unfolding(crate::specs::Isa::with_displacement))]
 fn with_displacement(word: u16) -> Instruction
     ensures { result ≡ Isa.with_displacement word }
 {
@@ -339,6 +348,7 @@ fn with_displacement(word: u16) -> Instruction
 }
 
 // The shift of a word from 0800 to 0BFF.
+#[tactic(auto, using(std::proofs::lemmas::Bool::Decides::nat_tests), unfolding(crate::specs::Isa::shift_operation))]
 pub fn shift_operation(code: u16) -> ShiftOp
     ensures { result ≡ Isa.shift_operation code }
 {
@@ -351,6 +361,7 @@ pub fn shift_operation(code: u16) -> ShiftOp
 }
 
 // A word from 0800 to 0FFF.
+#[tactic(auto, using(std::proofs::lemmas::Bool::Decides::nat_tests), unfolding(crate::specs::Isa::shift))]
 fn shift(word: u16) -> Instruction
     ensures { result ≡ Isa.shift word }
 {
@@ -366,6 +377,7 @@ fn shift(word: u16) -> Instruction
 }
 
 // The operation of a word from 0400 to 077F, BLWP and X apart.
+#[tactic(auto, using(std::proofs::lemmas::Bool::Decides::nat_tests), unfolding(crate::specs::Isa::single_operation))]
 pub fn single_operation(code: u16) -> SingleOp
     ensures { result ≡ Isa.single_operation code }
 {
@@ -386,16 +398,16 @@ pub fn single_operation(code: u16) -> SingleOp
 }
 
 // A word from 0400 to 07FF.
+#[tactic(auto, using(std::proofs::lemmas::Bool::Decides::nat_tests), unfolding(crate::specs::Isa::single))]
 fn single(word: u16) -> Instruction
     ensures { result ≡ Isa.single word }
 {
     if word < 0x0780 {
         let operand = source(word);
-        let code = word / 0x40 * 0x40;
-        match code {
+        match word / 0x40 * 0x40 {
             0x0400 => Instruction::Blwp { operand },
             0x0480 => Instruction::X { operand },
-            _ => Instruction::Single {
+            code => Instruction::Single {
                 op: single_operation(code),
                 operand,
             },
@@ -406,6 +418,7 @@ fn single(word: u16) -> Instruction
 }
 
 // The operation of a word from 0200 to 029F.
+#[tactic(auto, using(std::proofs::lemmas::Bool::Decides::nat_tests), unfolding(crate::specs::Isa::immediate_operation))]
 pub fn immediate_operation(code: u16) -> ImmediateOp
     ensures { result ≡ Isa.immediate_operation code }
 {
@@ -419,6 +432,7 @@ pub fn immediate_operation(code: u16) -> ImmediateOp
 }
 
 // The operation of a word from 0340 to 03FF.
+#[tactic(auto, using(std::proofs::lemmas::Bool::Decides::nat_tests), unfolding(crate::specs::Isa::control_operation))]
 pub fn control_operation(code: u16) -> ControlOp
     ensures { result ≡ Isa.control_operation code }
 {
@@ -433,6 +447,7 @@ pub fn control_operation(code: u16) -> ControlOp
 }
 
 // A word from 0200 to 03FF.
+#[tactic(auto, using(std::proofs::lemmas::Bool::Decides::nat_tests), unfolding(crate::specs::Isa::immediate))]
 fn immediate(word: u16) -> Instruction
     ensures { result ≡ Isa.immediate word }
 {
@@ -458,28 +473,19 @@ fn immediate(word: u16) -> Instruction
 }
 
 // The instruction that a word is. The run does not go by it: `instructions` has the same ranges.
+#[tactic(auto, using(crate::proofs::Ranges::ranges))]
 pub fn decode(word: u16) -> Instruction
     ensures { result ≡ Isa.decoded word }
 {
-    if word >= 0x4000 {
-        return dual(word);
+    match word {
+        0x4000.. => dual(word),
+        0x2000.. => with_register(word),
+        0x1000.. => with_displacement(word),
+        0x0800.. => shift(word),
+        0x0400.. => single(word),
+        0x0200.. => immediate(word),
+        _ => Instruction::Unassigned,
     }
-    if word >= 0x2000 {
-        return with_register(word);
-    }
-    if word >= 0x1000 {
-        return with_displacement(word);
-    }
-    if word >= 0x0800 {
-        return shift(word);
-    }
-    if word >= 0x0400 {
-        return single(word);
-    }
-    if word >= 0x0200 {
-        return immediate(word);
-    }
-    Instruction::Unassigned
 }
 
 // Whether a word is an X.
@@ -490,6 +496,7 @@ pub fn is_x(word: u16) -> bool
 }
 
 // How many further words a general operand takes.
+#[tactic(auto, using(std::proofs::lemmas::Bool::Decides::nat_tests), unfolding(crate::specs::Isa::operand_words))]
 pub fn operand_words(operand: Operand) -> u16
     ensures { result ≡ Isa.operand_words operand }
 {
@@ -497,6 +504,7 @@ pub fn operand_words(operand: Operand) -> u16
 }
 
 // How many words an instruction takes after its first.
+#[tactic(auto, using(crate::proofs::Laws::operand_words_at_most), unfolding(crate::specs::Isa::further_words))]
 pub fn further_words(instruction: Instruction) -> u16
     ensures { result ≡ Isa.further_words instruction }
 {
@@ -506,21 +514,20 @@ pub fn further_words(instruction: Instruction) -> u16
             destination,
             ..
         } => operand_words(source) + operand_words(destination),
-        Instruction::Register { source, .. } => operand_words(source),
-        Instruction::Xop { source, .. } => operand_words(source),
-        Instruction::Transfer { operand, .. } => operand_words(operand),
-        Instruction::Bit { .. } => 0,
-        Instruction::Jump { .. } => 0,
-        Instruction::Shift { .. } => 0,
-        Instruction::Single { operand, .. } => operand_words(operand),
-        Instruction::Blwp { operand } => operand_words(operand),
-        Instruction::X { operand } => operand_words(operand),
-        Instruction::Immediate { .. } => 1,
-        Instruction::Stwp { .. } => 0,
-        Instruction::Stst { .. } => 0,
-        Instruction::Lwpi => 1,
-        Instruction::Limi => 1,
-        Instruction::Control { .. } => 0,
-        Instruction::Unassigned => 0,
+        Instruction::Register { source, .. } | Instruction::Xop { source, .. } => operand_words(
+            source,
+        ),
+        Instruction::Transfer { operand, .. }
+        | Instruction::Single { operand, .. }
+        | Instruction::Blwp { operand }
+        | Instruction::X { operand } => operand_words(operand),
+        Instruction::Immediate { .. } | Instruction::Lwpi | Instruction::Limi => 1,
+        Instruction::Bit { .. }
+        | Instruction::Jump { .. }
+        | Instruction::Shift { .. }
+        | Instruction::Stwp { .. }
+        | Instruction::Stst { .. }
+        | Instruction::Control { .. }
+        | Instruction::Unassigned => 0,
     }
 }
