@@ -22,10 +22,6 @@ pub reduced_twice : (w : Width) (x : ℕ) → x % 65536 % modulus w ≡ x % modu
 reduced_twice Byte x = omega arith
 reduced_twice Word x = omega arith
 
--- what `wrapping_sub_u16` ensures tells the difference
-pub wrapped_difference : (d s r : ℕ) → d < 65536 → s < 65536 → r < 65536 → (r + s) % 65536 ≡ d → r ≡ (d + (65536 - s)) % 65536
-wrapped_difference d s r hd hs hr e = omega arith
-
 -- the product of two numbers of k bits has at most twice as many
 pub product_below : (k : ℕ) {a b : ℕ} → a < 2 ^ k → b < 2 ^ k → a * b < 2 ^ (k + k)
 product_below k {a} {b} ha hb = rw (pow-add 2 k k) (lt_of_le_of_lt (mul-le-mul_left a (le_of_lt hb)) (mul-lt-mul_of_pos_right ha (pow_pos k)))

@@ -5,6 +5,7 @@ ghost use Rattle.alu.specs.Products as Products;
 use super::Pair;
 
 // The 32 bits of a product, as two words.
+#[tactic(auto, using(std::proofs::lemmas::Bool::Decides::nat_tests), unfolding(crate::specs::Products::product))]
 pub fn product(a: u16, b: u16) -> Pair
     ensures { result ≡ Products.product a b }
 {
@@ -16,6 +17,7 @@ pub fn product(a: u16, b: u16) -> Pair
 }
 
 // Quotient and remainder of a pair of words, where the quotient fits a word; else the pair.
+#[tactic(auto, using(std::proofs::lemmas::Bool::Decides::nat_tests), unfolding(crate::specs::Products::divided))]
 pub fn divided(d: u16, p: Pair) -> Pair
     ensures { result ≡ Products.divided d p }
 {

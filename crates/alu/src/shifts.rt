@@ -7,6 +7,7 @@ use isa::ShiftOp;
 use memory::Width;
 
 // A count of four bits, where 0 means 16.
+#[tactic(auto, using(std::proofs::lemmas::Bool::Decides::nat_tests), unfolding(crate::specs::Shifts::amount))]
 pub fn amount(n: u16) -> u16
     ensures { result ≡ Shifts.amount n }
 {
@@ -15,6 +16,7 @@ pub fn amount(n: u16) -> u16
 }
 
 // The weight of bit `k`.
+#[tactic(auto, using(std::proofs::lemmas::Bool::Decides::nat_tests))]
 fn weight(k: u32) -> u32
     requires { k ≤ 16 }
     ensures { result ≡ 2 ^ k }
@@ -44,6 +46,7 @@ fn shift_value(op: ShiftOp, v: u16, k: u32) -> u16
 }
 
 // The last bit that `k` shifts move out.
+#[tactic(auto, using(std::proofs::lemmas::Bool::Decides::nat_tests), unfolding(crate::specs::Shifts::shift_carry))]
 fn shift_carry(op: ShiftOp, v: u16, k: u32) -> bool
     requires { (1 ≤ k) × (k ≤ 16) }
     ensures { result ≡ Shifts.shift_carry op v k }
@@ -51,9 +54,7 @@ fn shift_carry(op: ShiftOp, v: u16, k: u32) -> bool
     let x = v as u32;
     match op {
         ShiftOp::Sla => bits::bit(x, 16 - k),
-        ShiftOp::Sra => bits::bit(x, k - 1),
-        ShiftOp::Srl => bits::bit(x, k - 1),
-        ShiftOp::Src => bits::bit(x, k - 1),
+        ShiftOp::Sra | ShiftOp::Srl | ShiftOp::Src => bits::bit(x, k - 1),
     }
 }
 
@@ -68,15 +69,14 @@ fn sign_changes(v: u16, k: u32) -> bool
 }
 
 // SLA alone judges OV.
+#[tactic(auto, using(std::proofs::lemmas::Bool::Decides::nat_tests), unfolding(crate::specs::Shifts::shift_overflow))]
 fn shift_overflow(op: ShiftOp, v: u16, k: u32, st: u16) -> u16
     requires { k ≤ 16 }
     ensures { result ≡ Shifts.shift_overflow op v k st }
 {
     match op {
         ShiftOp::Sla => bits::put(st, status::OVERFLOW, sign_changes(v, k)),
-        ShiftOp::Sra => st,
-        ShiftOp::Srl => st,
-        ShiftOp::Src => st,
+        ShiftOp::Sra | ShiftOp::Srl | ShiftOp::Src => st,
     }
 }
 

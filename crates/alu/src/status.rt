@@ -33,6 +33,7 @@ pub fn modulus(width: Width) -> u32
 }
 
 // A word reduced to a width.
+#[tactic(auto, using(std::proofs::lemmas::Bool::Decides::nat_tests))]
 pub fn reduced(width: Width, v: u16) -> u16
     ensures { result ≡ v % Memory.modulus width }
 {
@@ -66,16 +67,18 @@ pub fn compared(width: Width, a: u16, b: u16, st: u16) -> u16
 }
 
 // Byte forms set OP on odd parity; word forms leave it.
+#[tactic(auto, unfolding(crate::specs::Status::parity, crate::specs::Status::is_odd))]
 pub fn parity(width: Width, v: u16, st: u16) -> u16
     ensures { result ≡ Status.parity width v st }
 {
     match width {
-        Width::Byte => bits::put(st, ODD_PARITY, u16::count_ones(v) % 2 == 1),
+        Width::Byte => bits::put(st, ODD_PARITY, v.count_ones() % 2 == 1),
         Width::Word => st,
     }
 }
 
 // The status after a result that is compared with 0.
+#[tactic(auto, using(std::proofs::lemmas::Bool::Decides::nat_tests), unfolding(crate::specs::Status::judged))]
 pub fn judged(width: Width, v: u16, st: u16) -> u16
     ensures { result ≡ Status.judged width v st }
 {
@@ -83,6 +86,7 @@ pub fn judged(width: Width, v: u16, st: u16) -> u16
 }
 
 // C and OV made as given.
+#[tactic(auto, using(std::proofs::lemmas::Bool::Decides::nat_tests), unfolding(crate::specs::Status::carried))]
 pub fn carried(c: bool, o: bool, st: u16) -> u16
     ensures { result ≡ Status.carried c o st }
 {
@@ -90,6 +94,7 @@ pub fn carried(c: bool, o: bool, st: u16) -> u16
 }
 
 // Whether a jump's condition holds.
+#[tactic(auto, using(std::proofs::lemmas::Bool::Decides::nat_tests), unfolding(crate::specs::Status::jumps))]
 pub fn jumps(op: JumpOp, st: u16) -> bool
     ensures { result ≡ Status.jumps op st }
 {

@@ -5,7 +5,6 @@ ghost use Rattle.alu.specs.Sums as Sums;
 
 use super::{Outcome, status};
 use memory::Width;
-use std::num;
 
 // Whether the signed sum lies outside the width.
 fn sum_overflows(width: Width, a: u16, b: u16) -> bool
@@ -27,10 +26,11 @@ fn difference_overflows(width: Width, d: u16, s: u16) -> bool
 }
 
 // `a` + `b`: the value wraps, C is the carry out of the width.
+#[tactic(auto, using(crate::proofs::Laws::reduced_twice), unfolding(crate::specs::Sums::sum))]
 pub fn sum(width: Width, a: u16, b: u16, st: u16) -> Outcome
     ensures { result ≡ Sums.sum width a b st }
 {
-    let value = status::reduced(width, num::wrapping_add_u16(a, b));
+    let value = status::reduced(width, a.wrapping_add(b));
     let carry = status::modulus(width) <= (a as u32) + (b as u32);
     let judged = status::judged(width, value, st);
     Outcome {
@@ -43,7 +43,7 @@ pub fn sum(width: Width, a: u16, b: u16, st: u16) -> Outcome
 pub fn difference(width: Width, d: u16, s: u16, st: u16) -> Outcome
     ensures { result ≡ Sums.difference width d s st }
 {
-    let value = status::reduced(width, num::wrapping_sub_u16(d, s));
+    let value = status::reduced(width, d.wrapping_sub(s));
     let judged = status::judged(width, value, st);
     Outcome {
         value,
@@ -52,6 +52,7 @@ pub fn difference(width: Width, d: u16, s: u16, st: u16) -> Outcome
 }
 
 // 0 less the operand.
+#[tactic(auto, using(std::proofs::lemmas::Bool::Decides::nat_tests), unfolding(crate::specs::Sums::negated))]
 pub fn negated(v: u16, st: u16) -> Outcome
     ensures { result ≡ Sums.negated v st }
 {
@@ -59,17 +60,19 @@ pub fn negated(v: u16, st: u16) -> Outcome
 }
 
 // A signed word without its sign; 8000h stays.
+#[tactic(auto, using(std::proofs::lemmas::Bool::Decides::nat_tests))]
 fn magnitude(v: u16) -> u16
     ensures { result ≡ (if Bits.bit 15 v then (65536 - v) % 65536 else v) }
 {
     if bits::bit(v as u32, 15) {
-        num::wrapping_sub_u16(0, v)
+        0u16.wrapping_sub(v)
     } else {
         v
     }
 }
 
 // The operand without its sign; the status judges the operand.
+#[tactic(auto, using(std::proofs::lemmas::Bool::Decides::nat_tests), unfolding(crate::specs::Sums::absolute))]
 pub fn absolute(v: u16, st: u16) -> Outcome
     ensures { result ≡ Sums.absolute v st }
 {

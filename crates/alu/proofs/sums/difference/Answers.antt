@@ -9,12 +9,10 @@ pub returns : goal.returns
 unfolding difference
 returns c =
     let a = c.args in
-    let w = c.wrapping_sub_u16 in
     rw (
       c.carried.ensures,
       c.difference_overflows.ensures,
       c.judged-judged.ensures,
       c.reduced-value.ensures,
-      wrapped_difference a.d a.s w.result (omega arith) (omega arith) (omega arith) w.ensures.value,
       reduced_twice a.width (a.d + (65536 - a.s)),
     ) refl
