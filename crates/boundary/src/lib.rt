@@ -57,7 +57,7 @@ pub fn step(state: &mut State, memory: &mut [u8; SIZE], word: u32) -> StepAnswer
     ensures { Answer.answered word (at state.old memory.old) ≡ performed result (at state.new memory.new) }
 {
     let record = psi::split(word);
-    state.psi = state.psi.advance(record.cycles);
+    state.psi.advance(record.cycles);
     let code = state.psi.code(record.levels);
     let taken = sampling::admitted(*state, sampling::signal(code));
     boundary(state, memory, record.levels, taken)

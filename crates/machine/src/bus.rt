@@ -16,7 +16,7 @@ impl State {
     pub fn load(&mut self, memory: &[u8; SIZE], width: Width, address: u16) -> u16
         ensures { (v : ℕ) → perform v (Micro.load width address) (at self.old memory.now) ≡ performed result (at self.new memory.now) }
     {
-        self.addressed(address);
+        self.address(address);
         memory::load(memory, width, address)
     }
 
@@ -25,7 +25,7 @@ impl State {
     pub fn store(&mut self, memory: &mut [u8; SIZE], width: Width, to: u16, value: u16)
         ensures { (v : ℕ) → perform v (Micro.store width to value) (at self.old memory.old) ≡ performed tt (at self.new memory.new) }
     {
-        self.addressed(to);
+        self.address(to);
         if (memory::place(width, to) as u32) < self.rom {
             memory::store(memory, width, to, value);
         }
@@ -37,7 +37,7 @@ impl State {
         ensures { (v : ℕ) → perform v Micro.fetched (at self.old memory.now) ≡ performed result (at self.new memory.now) }
     {
         let pc = self.pc;
-        self.addressed(pc);
+        self.address(pc);
         self.pc = pc.wrapping_add(2);
         memory::load(memory, Width::Word, pc)
     }
@@ -100,9 +100,7 @@ impl State {
     pub fn sense(&mut self, levels: u32, bit: CruBit) -> bool
         ensures { (m : List ℕ) → perform levels (Micro.sensed bit) (at self.old m) ≡ performed result (at self.new m) }
     {
-        let found = self.psi.sense(levels, bit);
-        self.psi = found.psi;
-        found.value
+        self.psi.sense(levels, bit)
     }
 
     // Writes a CRU bit.
@@ -110,6 +108,6 @@ impl State {
     pub fn drive(&mut self, bit: CruBit, value: bool)
         ensures { (v : ℕ) (m : List ℕ) → perform v (Micro.driven bit value) (at self.old m) ≡ performed tt (at self.new m) }
     {
-        self.psi = self.psi.drive(bit, value);
+        self.psi.drive(bit, value);
     }
 }

@@ -93,10 +93,10 @@ impl State {
     }
 
     // An access to memory at this byte address, which the PSI sees.
-    fn addressed(&mut self, address: u16)
+    fn address(&mut self, address: u16)
         ensures { self.new ≡ Perform.addressed address self.old }
     {
-        self.psi = self.psi.addressed(address);
+        self.psi.address(address);
     }
 
     // WP and PC even, flags at most 2, the read-only address even and at most the memory's size, and the PSI's fields in order.

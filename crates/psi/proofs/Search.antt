@@ -3,9 +3,8 @@ use Prim.Native.Nat.{ℕ, zero, suc, ◌+◌, ◌-◌, ◌/◌, ◌^◌, ◌<◌
 use mathlib.Core.Path.{◌≡◌, refl}
 use mathlib.Core.Bool.{true, false}
 use native.Mathlib.Omega.{arith}
-use native.Mathlib.Nat.{div-eq_of_lt, lt_of_lt_of_le, zero-div}
-use native.Mathlib.Decide.{dec_lt}
-use lib.Pow.{pow_mono, shr-shr}
+use native.Mathlib.Nat.{zero-div}
+use lib.Pow.{shr-shr}
 use Rattle.bits.specs.Bits.{bit}
 use Rattle.psi.specs.declared.Psi.{Psi}
 use Rattle.psi.specs.Pins.{requested, lowest}
@@ -19,10 +18,6 @@ none_above w n m e h =
 pub unset_above : (w n m : ℕ) → w / 2 ^ n ≡ 0 → n ≤ m → bit m w ≡ false
 unfolding bit
 unset_above w n m e h = rw (none_above w n m e h)
-
-pub below_width : (k w n : ℕ) → w < 2 ^ k → (w / 2 ^ n ≡ 0 → ⊥) → n < k
-below_width k w n h e =
-    elim (dec_lt n k) [ yes l ↦ l | no g ↦ absurd (e (div-eq_of_lt (lt_of_lt_of_le h (pow_mono (let p : k ≤ n = omega arith in p))))) ]
 
 module _ (s : Psi) (v : ℕ) where
   pub lowest_none : (k n : ℕ) → s.mask / 2 ^ n ≡ 0 → lowest s v k n ≡ 0

@@ -4,7 +4,6 @@ use Rattle.bits.specs.Bits.{bit, put, signed_byte}
 use Rattle.psi.specs.declared.Psi.{Psi}
 use Rattle.psi.specs.declared.CruBase.{CruBase}
 use Rattle.psi.specs.declared.CruBit.{CruBit}
-use Rattle.psi.specs.declared.Sensed.{Sensed}
 use Rattle.psi.specs.Psi.{bits, control, refreshed, with_mask, with_ports, with_pending, with_load}
 use Rattle.psi.specs.Pins.{port_level, request_level, request}
 
@@ -52,6 +51,11 @@ selected s0 p = if s0 then refreshed p else p
 -- matter, so neither does the width
 unfoldable pub addressed : ℕ → Psi → Psi
 addressed a = selected (bit memory_select a)
+
+-- what reading a CRU bit gives: its value, and the PSI after the access
+pub record Sensed : Type 0 where
+  pub value : Bool
+  pub psi : Psi
 
 -- Any access to a bit whose number has weight 16, inside the PSI (16 to 31) or outside it, refreshes the read register.
 unfoldable pub sensed : Psi → ℕ → CruBit → Sensed

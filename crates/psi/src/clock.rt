@@ -1,5 +1,5 @@
 // The clock: any number of cycles at once, by arithmetic.
-ghost use Rattle.std.specs.Prelude.{◌≡◌, ◌+◌, ◌<◌};
+ghost use Rattle.std.specs.Prelude.{◌≡◌, ◌<◌};
 ghost use Rattle.psi.specs.Clock as Clock;
 ghost use Rattle.psi.specs.AtOnce as AtOnce;
 
@@ -7,6 +7,7 @@ use crate::Psi;
 
 impl Psi {
     // What the decrementer goes to from 0.
+    #[tactic(auto, using(std::proofs::lemmas::Bool::Decides::nat_tests), unfolding(crate::specs::AtOnce::largest))]
     fn largest(self) -> u16
         ensures { result ≡ AtOnce.largest self }
     {
@@ -37,6 +38,7 @@ impl Psi {
     }
 
     // The first tick that brings the decrementer to 0.
+    #[tactic(auto, using(std::proofs::lemmas::Bool::Decides::nat_tests), unfolding(crate::specs::AtOnce::first_zero))]
     fn first_zero(self) -> u32
         ensures { result ≡ AtOnce.first_zero self }
     {
@@ -48,6 +50,7 @@ impl Psi {
     }
 
     // The pending flag after `n` ticks.
+    #[tactic(auto, using(std::proofs::lemmas::Bool::Decides::nat_tests), unfolding(crate::specs::AtOnce::pending_after))]
     fn pending_after(self, n: u32) -> u16
         ensures { result ≡ AtOnce.pending_after n self }
     {
@@ -58,43 +61,31 @@ impl Psi {
         }
     }
 
-    // In interrupt mode the read register shows the decrementer.
-    fn followed(self) -> Psi
-        ensures { result ≡ Clock.followed self }
+    // `n` ticks at once, one or more. In interrupt mode the read register shows the decrementer.
+    #[tactic(auto, using(crate::proofs::AtOnce::ticks_at_once), unfolding(crate::specs::Clock::followed))]
+    fn tick(&mut self, n: u32)
+        requires { 0 < n }
+        ensures { self.new ≡ Clock.ticks n self.old }
     {
-        if self.control() {
-            self
-        } else {
-            self.refreshed()
+        let before = *self;
+        self.decrementer = before.count_after(n);
+        self.pending = before.pending_after(n);
+        if !self.control() {
+            self.refresh();
         }
     }
 
-    // `n` ticks at once, one or more.
-    fn ticked(mut self, n: u32) -> Psi
-        requires { 0 < n }
-        ensures { result ≡ Clock.ticks n self }
-    {
-        let count = self.count_after(n);
-        let pending = self.pending_after(n);
-        self.decrementer = count;
-        self.pending = pending;
-        self.followed()
-    }
-
-    // The phase plus `cycles`: it may pass 32 bits.
-    fn elapsed(self, cycles: u32) -> u64
-        ensures { result ≡ self.phase + cycles }
-    {
-        self.phase as u64 + cycles as u64
-    }
-
     // `cycles` cycles later: a tick each time the phase comes round.
-    pub fn advance(mut self, cycles: u32) -> Psi
-        ensures { result ≡ Clock.advanced cycles self }
+    #[tactic(auto, using(std::proofs::lemmas::Bool::Decides::nat_tests), unfolding(crate::specs::Clock::advanced, crate::specs::Clock::ticks))]
+    pub fn advance(&mut self, cycles: u32)
+        ensures { self.new ≡ Clock.advanced cycles self.old }
     {
-        let elapsed = self.elapsed(cycles);
+        // The phase plus the cycles may pass 32 bits.
+        let elapsed = self.phase as u64 + cycles as u64;
         let n = (elapsed / Psi::TICK_CYCLES as u64) as u32;
         self.phase = (elapsed % Psi::TICK_CYCLES as u64) as u16;
-        if n == 0 { self } else { self.ticked(n) }
+        if n != 0 {
+            self.tick(n);
+        }
     }
 }

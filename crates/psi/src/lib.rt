@@ -67,11 +67,10 @@ impl Psi {
     }
 
     // The read register takes the decrementer's value.
-    pub(crate) fn refreshed(mut self) -> Psi
-        ensures { result ≡ Own.refreshed self }
+    pub(crate) fn refresh(&mut self)
+        ensures { self.new ≡ Own.refreshed self.old }
     {
         self.reading = self.decrementer;
-        self
     }
 
     // Whether the fields are the PSI's part of a well-formed state.
@@ -96,13 +95,6 @@ pub struct CruBase(pub u16);
 #[derive(Clone, Copy)]
 pub struct CruBit(pub u16);
 
-// What reading a CRU bit gives: its value, and the PSI after the access.
-#[derive(Clone, Copy)]
-pub struct Sensed {
-    pub value: bool,
-    pub psi: Psi,
-}
-
 // The weight of a record's lowest bit of cycles; below it are 22 levels.
 const CYCLE: u32 = 1 << 22;
 
@@ -114,6 +106,7 @@ pub struct Record {
 }
 
 // The parts of a record.
+#[tactic(auto, unfolding(crate::specs::Pins::parted))]
 pub fn split(word: u32) -> Record
     ensures { result ≡ Pins.parted word }
 {
@@ -125,6 +118,7 @@ pub fn split(word: u32) -> Record
 
 impl CruBase {
     // The bit that R12 points at: divided by two, modulo 2048.
+    #[tactic(auto, unfolding(crate::specs::Cru::first_bit))]
     pub fn bit(self) -> CruBit
         ensures { result ≡ Cru.first_bit self }
     {
@@ -137,10 +131,11 @@ impl CruBit {
     pub const NUMBERS: u16 = 2048;
 
     // The bit `d` bits further; bit numbers wrap.
+    #[tactic(auto, unfolding(crate::specs::Cru::beyond))]
     pub fn plus(self, d: u16) -> CruBit
         ensures { result ≡ Cru.beyond self d }
     {
-        CruBit((((self.0 as u32) + (d as u32)) % (CruBit::NUMBERS as u32)) as u16)
+        CruBit(((self.0 as u32 + d as u32) % CruBit::NUMBERS as u32) as u16)
     }
 
     // The bit that lies a signed 8-bit displacement away.

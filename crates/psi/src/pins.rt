@@ -6,6 +6,7 @@ ghost use Rattle.psi.specs.Quiet as Quiet;
 use crate::Psi;
 
 // The weight of port `p`'s pin in a record.
+#[tactic(auto, using(std::proofs::lemmas::Bool::Decides::nat_tests), unfolding(crate::specs::Pins::port_weight))]
 fn port_weight(p: u32) -> u32
     requires { p < 16 }
     ensures { result ≡ Pins.port_weight p }
@@ -15,6 +16,7 @@ fn port_weight(p: u32) -> u32
 
 impl Psi {
     // The level of port `p`'s pin.
+    #[tactic(auto, unfolding(crate::specs::Pins::port_level))]
     pub(crate) fn port_level(self, levels: u32, p: u32) -> bool
         requires { p < 16 }
         ensures { result ≡ Pins.port_level self levels p }
@@ -27,6 +29,7 @@ impl Psi {
     }
 
     // The level of pin INTn.
+    #[tactic(auto, using(std::proofs::lemmas::Bool::Decides::nat_tests), unfolding(crate::specs::Pins::request_level))]
     pub(crate) fn request_level(self, levels: u32, n: u32) -> bool
         requires { (0 < n) × (n < 16) }
         ensures { result ≡ Pins.request_level self levels n }
@@ -39,6 +42,7 @@ impl Psi {
     }
 
     // Whether request n is active: its pin is low, or for request 3 with a load the clock's flag is set.
+    #[tactic(auto, using(std::proofs::lemmas::Bool::Decides::nat_tests), unfolding(crate::specs::Pins::active))]
     fn active(self, levels: u32, n: u32) -> bool
         requires { (0 < n) × (n < 16) }
         ensures { result ≡ Pins.active self levels n }
@@ -51,15 +55,12 @@ impl Psi {
     }
 
     // Whether request n is enabled and active.
+    #[tactic(auto, unfolding(crate::specs::Pins::requested))]
     fn requested(self, levels: u32, n: u32) -> bool
         requires { (0 < n) × (n < 16) }
         ensures { result ≡ Pins.requested self levels n }
     {
-        if bits::bit(self.mask as u32, n) {
-            self.active(levels, n)
-        } else {
-            false
-        }
+        bits::bit(self.mask as u32, n) && self.active(levels, n)
     }
 
     // The lowest request that is enabled and active, or 0. The search ends where no mask bit is left.
@@ -67,18 +68,20 @@ impl Psi {
         ensures { result ≡ Pins.request self levels }
     {
         let mask = self.mask as u32;
-        let mut n: u32 = 1;
-        while mask >> n != 0 {
+        for n in 1..16u32 {
+            if mask >> n == 0 {
+                break;
+            }
             if self.requested(levels, n) {
                 return n as u16;
             }
-            n += 1;
         }
         0
     }
 
     // The pins of requests that are surely high, each at its weight in the record: INT7 to INT15 may be driven where one of the
     // ports P7 to P15 is an output.
+    #[tactic(auto, using(std::proofs::lemmas::Bool::Decides::nat_tests), unfolding(crate::specs::Quiet::high))]
     fn high(self, levels: u32) -> u32
         ensures { result ≡ Quiet.high self levels }
     {
@@ -100,6 +103,7 @@ impl Psi {
     }
 
     // What the CPU sees of it on its three lines.
+    #[tactic(auto, using(std::proofs::lemmas::Bool::Decides::nat_tests, crate::proofs::Quiet::quiet_meaning), unfolding(crate::specs::Pins::code))]
     pub fn code(self, levels: u32) -> u16
         ensures { result ≡ Pins.code self levels }
     {

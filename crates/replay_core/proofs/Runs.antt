@@ -56,7 +56,7 @@ unfolding runs
 first_records stop zero rs m = refl
 first_records stop (suc n) [] m = refl
 first_records stop (suc n) (r ∷ rs) m =
-    ap (λ z. elim (eqb m.state.pc stop) [ | true ↦ at_once m | false ↦ one_more (answer r m) z ]) (first_records stop n rs (step r m).machine)
+    ap (λ z. elim (eqb m.state.pc stop) [ true ↦ at_once m | false ↦ one_more (answer r m) z ]) (first_records stop n rs (step r m).machine)
 
 -- an accepted run answers what its steps lead to
 pub ran_to : (m : List ℕ) (s : State) (rs : List ℕ) (n stop : ℕ) (r : Did) (x : List ℕ)

@@ -1,8 +1,8 @@
 -- `alu::sums::difference` meets its contract: the wrapped difference reduced to the width is the definition's, and carry and overflow
 -- are those of the definition.
-use Rattle.std.proofs.Common.{◌+◌, ◌-◌, refl, arith}
+use Rattle.std.proofs.Common.{◌+◌, ◌-◌, refl}
 use Rattle.alu.specs.Sums.{difference}
-use Rattle.alu.proofs.Laws.{reduced_twice, wrapped_difference}
+use Rattle.alu.proofs.Laws.{reduced_twice}
 use Rattle.alu.proofs.sums.difference.Goals as goal
 
 pub returns : goal.returns

@@ -1,10 +1,7 @@
-use Prim.Native.Nat.{◌≤◌, ◌<◌, ◌-◌}
+use Prim.Native.Nat.{◌-◌}
 use mathlib.Core.Path.{◌≡◌}
 use Rattle.psi.specs.Pins.{lowest}
 use Rattle.psi.proofs.Psi.request.Given as goal
 
 abbrev pub invariant-loop-n : goal.invariant-loop-n
-invariant-loop-n l = (0 < l.n) × (l.n ≤ 16) × (lowest l.self l.levels 15 1 ≡ lowest l.self l.levels (16 - l.n) l.n)
-
-abbrev pub decreases-loop-n : goal.decreases-loop-n
-decreases-loop-n l = 16 - l.n
+invariant-loop-n l = lowest l.self l.levels 15 1 ≡ lowest l.self l.levels (16 - l.n) l.n
