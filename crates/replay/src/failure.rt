@@ -12,10 +12,9 @@ pub enum Failure<'a> {
 
 // An error's words, without the system's number for it.
 fn reason(message: &str) -> &str {
-    match message.split_once(" (os error ") {
-        Some((words, _)) => words,
-        None => message,
-    }
+    message
+        .split_once(" (os error ")
+        .map_or(message, |(words, _)| words)
 }
 
 impl Display for Failure<'_> {

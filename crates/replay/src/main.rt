@@ -36,8 +36,7 @@ fn replay<'a>(
     if done.number == 0 {
         output::replace(rt, out, &after).map_err(|e| Failure::Of(out, e))?;
     }
-    let text = done.text;
-    rt.write_all(&text.bytes[..text.length])
+    rt.write_all(&done.text.bytes[..done.text.length])
         .map_err(|e| Failure::Of(b"standard output", e))
 }
 

@@ -12,8 +12,8 @@ const TEMPORARY: &[u8; 14] = b".replay.00.tmp";
 // A folder with a longer path gets no temporary.
 const FOLDER: usize = 4000;
 
-// The bytes of a temporary's path.
-const NAME: usize = 4014;
+// The longest path of a temporary.
+const NAME: usize = FOLDER + TEMPORARY.len();
 
 // A file may take this name where there is none, or one that holds bytes, and no device or folder.
 fn check_replaceable(rt: &impl Files, path: &[u8]) -> io::Result<()> {
@@ -27,7 +27,7 @@ fn check_replaceable(rt: &impl Files, path: &[u8]) -> io::Result<()> {
 // The path without its last part.
 fn folder(path: &[u8]) -> &[u8] {
     match path.iter().rposition(|byte| *byte == b'/') {
-        Some(slash) => &path[..slash + 1],
+        Some(slash) => &path[..=slash],
         None => &[],
     }
 }
@@ -39,7 +39,7 @@ fn temporary<'a>(path: &[u8], buffer: &'a mut [u8; NAME]) -> io::Result<&'a mut 
     let folder = folder(path);
     let at = folder.len();
     if at > FOLDER {
-        return Err(system::name_too_long());
+        return Err(io::Error::from_raw_os_error(system::ENAMETOOLONG));
     }
     let name = &mut buffer[..at + TEMPORARY.len()];
     name[..at].copy_from_slice(folder);
@@ -76,7 +76,7 @@ pub fn replace(rt: &impl Files, path: &[u8], bytes: &[u8]) -> io::Result<()> {
     let mut buffer = [0u8; NAME];
     let name = temporary(path, &mut buffer)?;
     let file = create(rt, name)?;
-    let done = fill(file, bytes).and_then(|_| system::rename(rt, name, path));
+    let done = fill(file, bytes).and_then(|()| system::rename(rt, name, path));
     if done.is_err() {
         let _ = system::unlink(rt, name);
     }

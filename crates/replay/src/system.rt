@@ -9,12 +9,7 @@ use std::{fs, io};
 // The system's numbers for an argument that is missing and for a name that is too long.
 const EINVAL: i32 = 22;
 
-const ENAMETOOLONG: i32 = 36;
-
-// The system's error for a name that is too long.
-pub fn name_too_long() -> io::Error {
-    io::Error::from_raw_os_error(ENAMETOOLONG)
-}
+pub const ENAMETOOLONG: i32 = 36;
 
 // Whether the program was started with argument `i`; argument 0 is its own name.
 pub fn has_arg(rt: &impl Env, i: usize) -> bool {
@@ -29,7 +24,7 @@ pub fn arg<'a>(rt: &impl Env, i: usize, buffer: &'a mut [u8]) -> io::Result<&'a 
     match rt.arg(i, buffer) {
         Ok(n) => Ok(&buffer[..n]),
         Err(FillError::NotPresent) => Err(io::Error::from_raw_os_error(EINVAL)),
-        Err(FillError::TooLong) => Err(name_too_long()),
+        Err(FillError::TooLong) => Err(io::Error::from_raw_os_error(ENAMETOOLONG)),
     }
 }
 
@@ -38,10 +33,10 @@ fn text(path: &[u8]) -> io::Result<&str>
     ensures when { IsOk result ↔ IsUtf8 path.now }
     ensures value { IfOk result (λ text. text.now ≡ path.now) }
 {
-    match str::from_utf8(path) {
-        Ok(text) => Ok(text),
-        Err(_) => Err(io::Error::new(ErrorKind::InvalidFilename, "the path is not UTF-8")),
-    }
+    str::from_utf8(path).map_err(|_| io::Error::new(
+        ErrorKind::InvalidFilename,
+        "the path is not UTF-8",
+    ))
 }
 
 // Opens a file for reading.
