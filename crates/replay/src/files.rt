@@ -6,7 +6,8 @@ use std::fs::Files;
 use std::io;
 use std::io::Read;
 
-// Reads until the buffer is full or the file ends, and returns how many bytes came.
+// Reads until the buffer is full or the file ends, and returns how many bytes came. `read_exact` refuses a short file, and `read_to_end`
+// needs a heap.
 fn read_all(file: &mut impl Read, buffer: &mut [u8]) -> io::Result<usize>
     ensures { IfOk result (λ n. n ≤ length buffer.old) }
 {

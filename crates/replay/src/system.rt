@@ -6,7 +6,7 @@ use std::fs::{File, Files, OpenOptions};
 use std::io::ErrorKind;
 use std::{fs, io};
 
-// The system's numbers for an argument that is missing and for a name that is too long.
+// The system's numbers for an argument that is missing and for a name that is too long: the kinds of `io::Error` have other words.
 const EINVAL: i32 = 22;
 
 pub const ENAMETOOLONG: i32 = 36;

@@ -38,11 +38,12 @@ pub fn record_count(file: &[u8]) -> usize
     taken(file).len()
 }
 
-// The file's records, then zeros.
+// The file's records, then zeros. The clauses here and of `record_count` stay for `replay_call::run_on`, so the array has its count beside it.
 pub fn records(file: &[u8]) -> [u32; MOST]
     ensures { result ≡ Pins.records file.now ++ drop (length (Pins.records file.now)) (replicate Pins.most 0) }
 {
     let mut records = [0u32; MOST];
+    // By its index: after an `iter_mut` a proof knows no element.
     for (i, word) in taken(file).iter().enumerate() {
         records[i] = u32::from_be_bytes(*word);
     }
