@@ -1,46 +1,31 @@
 // Reading a file: its start, as much as the buffer holds. A read that fails is told from the end of the file.
-ghost use Rattle.replay.specs.Files as Files;
+ghost use Rattle.std.specs.Prelude.{◌≤◌, length, IfOk};
 
 use crate::system;
-use std::fs::Files as System;
+use std::fs::Files;
+use std::io;
 use std::io::Read;
 
-// What a failed reading answers: more than any buffer has.
-pub const FAILED: usize = 0xFFFF_FFFF_FFFF_FFFF;
-
-// Reads until the buffer is full or the file ends, and answers how many bytes came. Where a read fails, says so of
-// `path`, and answers FAILED.
-fn read_all(rt: &impl Eprint, file: &mut impl Read, path: &[u8], buffer: &mut [u8]) -> usize
-    ensures { Files.Came result buffer.old }
+// Reads until the buffer is full or the file ends, and returns how many bytes came. `read_exact` refuses a short file, and `read_to_end`
+// needs a heap.
+fn read_all(file: &mut impl Read, buffer: &mut [u8]) -> io::Result<usize>
+    ensures { IfOk result (λ n. n ≤ length buffer.old) }
 {
-    let end = buffer.len();
     let mut done = 0;
-    while done < end {
-        match file.read(&mut buffer[done..end]) {
-            Ok(more) => {
-                if more == 0 {
-                    return done;
-                }
-                done += more;
-            }
-            Err(error) => {
-                system::fail(rt, path, error);
-                return FAILED;
-            }
+    while done < buffer.len() {
+        match file.read(&mut buffer[done..])? {
+            0 => break,
+            more => done += more,
         }
     }
-    done
+    Ok(done)
 }
 
-// Reads the file of this name. Where it cannot be read, says so, and answers FAILED.
-pub fn load(rt: &(impl System + Eprint), path: &[u8], buffer: &mut [u8]) -> usize
-    ensures { Files.Came result buffer.old }
+// Reads the start of the file of this name into the buffer, and returns that part of it.
+pub fn load<'a>(rt: &impl Files, path: &[u8], buffer: &'a mut [u8]) -> io::Result<&'a [u8]>
+    ensures { IfOk result (λ bytes. length bytes.now ≤ length buffer.old) }
 {
-    match system::open_read(rt, path) {
-        Ok(mut file) => read_all(rt, &mut file, path, buffer),
-        Err(error) => {
-            system::fail(rt, path, error);
-            FAILED
-        }
-    }
+    let mut file = system::open_read(rt, path)?;
+    let n = read_all(&mut file, buffer)?;
+    Ok(&buffer[..n])
 }

@@ -1,16 +1,15 @@
 // `replay IMAGE PINS OUT`: reads an image and a pin file, runs, writes the image after, and prints one line.
 #![tactic(auto)]
 
+mod failure;
 mod files;
 mod output;
 mod system;
 
-ghost use Rattle.std.specs.Prelude.{◌≤◌, length};
-ghost use Rattle.io.specs.Counts.{IsPrefixLen};
-
+use failure::Failure;
 use replay_files::pins;
+use std::env::Env;
 use std::fs::Files;
-use text::Text;
 
 // A byte more than an image is enough to see that a file is too long.
 const IMAGE_BUFFER: usize = image_blocks::IMAGE_SIZE + 1;
@@ -21,103 +20,57 @@ const PINS_BUFFER: usize = 4 * (1 + pins::MOST);
 // As many bytes as hold any path.
 const PATH: usize = 4096;
 
-fn usage(rt: &impl Eprint) {
-    let _ = eprintln!(rt; "usage: replay IMAGE PINS OUT");
-}
-
-// Prints the line; where that fails, says so.
-fn print_line(rt: &(impl Print + Eprint), text: Text)
-    requires { IsPrefixLen text.length text.bytes }
-{
-    let bytes = text.bytes;
-    let n = text.length;
-    if let Err(error) = rt.write_all(&bytes[..n]) {
-        system::fail(rt, b"standard output", error);
-    }
-}
-
-// Writes the image after.
-fn put(rt: &(impl Files + Eprint), out: &[u8], after: &[u8; image_blocks::IMAGE_SIZE]) -> bool {
-    output::replace(rt, out, after)
-}
-
-// The replay, where both files are read: the image after, if there is one, and then the line.
-fn replay(rt: &(impl Files + Print + Eprint), before: &[u8], file: &[u8], out: &[u8]) {
+// Reads both files, runs, writes the image after, if there is one, and then prints the line.
+fn replay<'a>(
+    rt: &(impl Files + Print),
+    image: &'a [u8],
+    pins: &'a [u8],
+    out: &'a [u8],
+) -> Result<(), Failure<'a>> {
+    let mut image_buffer = [0u8; IMAGE_BUFFER];
+    let before = files::load(rt, image, &mut image_buffer).map_err(|e| Failure::Of(image, e))?;
+    let mut pins_buffer = [0u8; PINS_BUFFER];
+    let file = files::load(rt, pins, &mut pins_buffer).map_err(|e| Failure::Of(pins, e))?;
     let mut after = [0u8; image_blocks::IMAGE_SIZE];
     let done = replay_call::replay(before, file, &mut after);
-    let text = done.text;
-    if done.number != 0 {
-        print_line(rt, text);
-        return;
+    if done.number == 0 {
+        output::replace(rt, out, &after).map_err(|e| Failure::Of(out, e))?;
     }
-    if put(rt, out, &after) {
-        print_line(rt, text);
-    }
+    rt.write_all(&done.text.bytes[..done.text.length])
+        .map_err(|e| Failure::Of(b"standard output", e))
 }
 
-// The replay of what was read: so many bytes of the two buffers.
-fn replay_read(
-    rt: &(impl Files + Print + Eprint),
-    before: &[u8],
-    n: usize,
-    file: &[u8],
-    m: usize,
-    out: &[u8],
-)
-    requires n_in_bounds { n ≤ length before.now }
-    requires m_in_bounds { m ≤ length file.now }
-{
-    replay(rt, &before[..n], &file[..m], out);
+// Argument `i`, in the buffer; messages name it `name`.
+fn argument<'a>(
+    rt: &impl Env,
+    i: usize,
+    name: &'a [u8],
+    buffer: &'a mut [u8],
+) -> Result<&'a [u8], Failure<'a>> {
+    system::arg(rt, i, buffer).map_err(|e| Failure::Of(name, e))
 }
 
-// Reads both files.
-fn replay_files_at(
-    rt: &(impl Files + Print + Eprint),
-    image_path: &[u8],
-    pins_path: &[u8],
-    out: &[u8],
-) {
-    let mut before = [0u8; IMAGE_BUFFER];
-    let n = files::load(rt, image_path, &mut before);
-    if n == files::FAILED {
-        return;
+// The program on its arguments, which the buffers hold.
+fn run<'a>(
+    rt: &(impl Env + Files + Print),
+    image: &'a mut [u8; PATH],
+    pins: &'a mut [u8; PATH],
+    out: &'a mut [u8; PATH],
+) -> Result<(), Failure<'a>> {
+    if !system::has_arg(rt, 3) || system::has_arg(rt, 4) {
+        return Err(Failure::Usage);
     }
-    let mut file = [0u8; PINS_BUFFER];
-    let m = files::load(rt, pins_path, &mut file);
-    if m == files::FAILED {
-        return;
-    }
-    replay_read(rt, &before, n, &file, m, out);
+    let image = argument(rt, 1, b"IMAGE", image)?;
+    let pins = argument(rt, 2, b"PINS", pins)?;
+    let out = argument(rt, 3, b"OUT", out)?;
+    replay(rt, image, pins, out)
 }
 
 fn main(rt: HostRuntime) {
-    if !system::has_arg(&rt, 3) || system::has_arg(&rt, 4) {
-        usage(&rt);
-        return;
-    }
-    let mut image_path = [0u8; PATH];
-    let n = match system::arg(&rt, 1, &mut image_path) {
-        Ok(n) => n,
-        Err(error) => {
-            system::fail(&rt, b"IMAGE", error);
-            return;
-        }
-    };
-    let mut pins_path = [0u8; PATH];
-    let m = match system::arg(&rt, 2, &mut pins_path) {
-        Ok(m) => m,
-        Err(error) => {
-            system::fail(&rt, b"PINS", error);
-            return;
-        }
-    };
+    let mut image = [0u8; PATH];
+    let mut pins = [0u8; PATH];
     let mut out = [0u8; PATH];
-    let k = match system::arg(&rt, 3, &mut out) {
-        Ok(k) => k,
-        Err(error) => {
-            system::fail(&rt, b"OUT", error);
-            return;
-        }
-    };
-    replay_files_at(&rt, &image_path[..n], &pins_path[..m], &out[..k]);
+    if let Err(failure) = run(&rt, &mut image, &mut pins, &mut out) {
+        let _ = eprintln!(rt; "{failure}");
+    }
 }

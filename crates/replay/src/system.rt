@@ -1,32 +1,28 @@
-// What the program asks of the system: its arguments, files by the bytes of their paths, and messages.
+// What the program asks of the system: its arguments, and files by the bytes of their paths.
 ghost use Rattle.std.specs.Prelude.{◌≡◌, ◌↔◌, ◌≤◌, length, IfOk, IsOk, IsUtf8};
 
 use std::env::{Env, FillError};
-use std::fmt::InlineText;
 use std::fs::{File, Files, OpenOptions};
 use std::io::ErrorKind;
 use std::{fs, io};
 
-// The system's numbers for an argument that is missing and for one that is too long.
+// The system's numbers for an argument that is missing and for a name that is too long: the kinds of `io::Error` have other words.
 const EINVAL: i32 = 22;
 
-const ENAMETOOLONG: i32 = 36;
+pub const ENAMETOOLONG: i32 = 36;
 
 // Whether the program was started with argument `i`; argument 0 is its own name.
 pub fn has_arg(rt: &impl Env, i: usize) -> bool {
     let mut start = [0u8; 1];
-    match rt.arg(i, &mut start) {
-        Err(FillError::NotPresent) => false,
-        _ => true,
-    }
+    !matches!(rt.arg(i, &mut start), Err(FillError::NotPresent))
 }
 
-// Puts argument `i` at the start of the buffer, and answers its length.
-pub fn arg(rt: &impl Env, i: usize, buffer: &mut [u8]) -> io::Result<usize>
-    ensures { IfOk result (λ n. n ≤ length buffer.new) }
+// Puts argument `i` at the start of the buffer, and returns that part of it.
+pub fn arg<'a>(rt: &impl Env, i: usize, buffer: &'a mut [u8]) -> io::Result<&'a [u8]>
+    ensures { IfOk result (λ arg. length arg.now ≤ length buffer.old) }
 {
     match rt.arg(i, buffer) {
-        Ok(n) => Ok(n),
+        Ok(n) => Ok(&buffer[..n]),
         Err(FillError::NotPresent) => Err(io::Error::from_raw_os_error(EINVAL)),
         Err(FillError::TooLong) => Err(io::Error::from_raw_os_error(ENAMETOOLONG)),
     }
@@ -37,10 +33,10 @@ fn text(path: &[u8]) -> io::Result<&str>
     ensures when { IsOk result ↔ IsUtf8 path.now }
     ensures value { IfOk result (λ text. text.now ≡ path.now) }
 {
-    match str::from_utf8(path) {
-        Ok(text) => Ok(text),
-        Err(_) => Err(io::Error::new(ErrorKind::InvalidFilename, "the path is not UTF-8")),
-    }
+    str::from_utf8(path).map_err(|_| io::Error::new(
+        ErrorKind::InvalidFilename,
+        "the path is not UTF-8",
+    ))
 }
 
 // Opens a file for reading.
@@ -72,22 +68,4 @@ pub fn rename(rt: &impl Files, from: &[u8], to: &[u8]) -> io::Result<()> {
 // Removes a file.
 pub fn unlink(rt: &impl Files, path: &[u8]) -> io::Result<()> {
     fs::remove_file(rt, text(path)?)
-}
-
-// An error's words, without the system's number for it.
-fn reason(message: &str) -> &str {
-    match message.split_once(" (os error ") {
-        Some((words, _)) => words,
-        None => message,
-    }
-}
-
-// Writes a line to standard error: what failed, as the caller names it, a colon and the reason.
-pub fn fail(rt: &impl Eprint, what: &[u8], error: io::Error) {
-    let message = InlineText::<256>::of(error);
-    let reason = reason(message.as_str());
-    let _ = match str::from_utf8(what) {
-        Ok(name) => eprintln!(rt; "{name}: {reason}"),
-        Err(_) => eprintln!(rt; "{}: {reason}", what.escape_ascii()),
-    };
 }
