@@ -70,6 +70,12 @@ impl Seed {
         }
     }
 
+    // Puts a PSI into clock mode, with any number in its read register.
+    pub fn set_clock_mode(&mut self, psi: &mut Psi) {
+        psi.reading = self.below(CLOCK_NUMBERS);
+        psi.mask |= 1;
+    }
+
     // A state with these flags, well formed but for them, with nothing read-only; some have PC in the workspace.
     pub fn state(&mut self, flags: u16) -> State {
         let wp = self.address();
@@ -87,15 +93,6 @@ impl Seed {
             psi: self.psi(),
             rom: State::NO_ROM,
         }
-    }
-}
-
-// A PSI in clock mode, with this number in its read register.
-pub fn in_clock_mode(psi: Psi, reading: u16) -> Psi {
-    Psi {
-        mask: psi.mask | 1,
-        reading,
-        ..psi
     }
 }
 
