@@ -8,6 +8,10 @@ pub mod roms;
 pub mod spoiled;
 pub mod states;
 
+use std::fmt;
+use std::io;
+use std::process::ExitCode;
+
 // A linear congruential generator over 32 bits, of which the high half is used.
 #[derive(Drop)]
 pub struct Seed(u32);
@@ -48,21 +52,21 @@ impl Seed {
 
 // A sum over numbers in their order.
 #[derive(Clone, Copy)]
-pub struct Sum(pub u32);
+pub struct Sum(u32);
 
 impl Sum {
     // The sum of nothing.
     pub const ZERO: Sum = Sum(0);
 
     // Takes one number more.
-    pub fn mix(&mut self, x: u32) {
-        self.0 = self.0.wrapping_mul(16777619).wrapping_add(x);
+    pub fn mix(&mut self, x: impl Into<u32>) {
+        self.0 = self.0.wrapping_mul(16777619).wrapping_add(x.into());
     }
 
     // Takes all these bytes.
     pub fn mix_bytes(&mut self, bytes: &[u8]) {
         for byte in bytes {
-            self.mix(*byte as u32);
+            self.mix(*byte);
         }
     }
 
@@ -71,5 +75,28 @@ impl Sum {
         let mut sum = Sum(0);
         sum.mix_bytes(bytes);
         sum
+    }
+}
+
+// A sum may itself be summed up.
+impl From<Sum> for u32 {
+    fn from(sum: Sum) -> Self {
+        sum.0
+    }
+}
+
+// A sum is printed in hexadecimal, with all its digits.
+impl fmt::Display for Sum {
+    fn fmt<W: fmt::Write>(&self, f: &mut fmt::Formatter<W>) -> fmt::Result {
+        write!(f, "{:08x}", self.0)
+    }
+}
+
+// The status of a program that has printed its lines, or has not. (Returned from `main`, the error would be told in words of the C library,
+// of which one more function would be assumed.)
+pub fn status(printed: io::Result<()>) -> ExitCode {
+    match printed {
+        Ok(()) => ExitCode::SUCCESS,
+        Err(_) => ExitCode::FAILURE,
     }
 }

@@ -109,14 +109,14 @@ impl Sum {
             psi.phase,
             psi.pending,
         ] {
-            self.mix(word as u32);
+            self.mix(word);
         }
     }
 
     // Takes the state's words.
     pub fn mix_state(&mut self, state: State) {
         for word in [state.wp, state.pc, state.st, state.flags] {
-            self.mix(word as u32);
+            self.mix(word);
         }
         self.mix_psi(state.psi);
         self.mix(state.rom);
@@ -124,7 +124,7 @@ impl Sum {
 
     // Takes a step's answer, as its two numbers.
     pub fn mix_answer(&mut self, answer: StepAnswer) {
-        self.mix(step_answers::number(answer) as u32);
-        self.mix(step_answers::value(answer) as u32);
+        self.mix(step_answers::number(answer));
+        self.mix(step_answers::value(answer));
     }
 }

@@ -9,6 +9,7 @@ use psi::Psi;
 use seeds::states::CLOCK_NUMBERS;
 use seeds::{Seed, Sum};
 use std::io;
+use std::process::ExitCode;
 
 // The seed of all that is drawn.
 const SEED: u32 = 9901;
@@ -106,7 +107,7 @@ fn near_line(rt: &impl Print, seed: &mut Seed, first: u32) -> io::Result<()> {
             pended = pended.wrapping_add(1);
         }
     }
-    println!(rt; "{first} {pended} {:08x}", sum.0)
+    println!(rt; "{first} {pended} {sum}")
 }
 
 // The load of a line of the second part.
@@ -141,16 +142,21 @@ fn far_line(rt: &impl Print, seed: &mut Seed, line: u32) -> io::Result<()> {
         "{} {} {} {} ",
         after.decrementer, after.reading, after.phase, after.pending
     )?;
-    println!(rt; "{:08x}", sum.0)
+    println!(rt; "{sum}")
 }
 
-fn main(rt: HostRuntime) -> io::Result<()> {
+// Both parts.
+fn all(rt: &impl Print) -> io::Result<()> {
     let mut seed = Seed::new(SEED);
     for line in 0..NEAR_LINES {
-        near_line(&rt, &mut seed, line * NEAR_CASES)?;
+        near_line(rt, &mut seed, line * NEAR_CASES)?;
     }
     for line in 0..FAR_LINES {
-        far_line(&rt, &mut seed, line)?;
+        far_line(rt, &mut seed, line)?;
     }
     Ok(())
+}
+
+fn main(rt: HostRuntime) -> ExitCode {
+    seeds::status(all(&rt))
 }

@@ -23,9 +23,9 @@ fn mix_places(sum: &mut Sum, places: &[u32; PLACES]) {
 
 // Adds an answer to the sum.
 fn mix_answer(sum: &mut Sum, answer: CompareAnswer) {
-    sum.mix(answer.number as u32);
-    sum.mix(answer.image as u32);
-    sum.mix(answer.block as u32);
+    sum.mix(answer.number);
+    sum.mix(answer.image);
+    sum.mix(answer.block);
     sum.mix(answer.fields);
     sum.mix(answer.runs);
 }
@@ -71,8 +71,8 @@ impl Outcome {
         for end in self.ends {
             sum.mix(end);
         }
-        sum.mix(self.listed.0);
-        sum.mix(self.rest.0);
+        sum.mix(self.listed);
+        sum.mix(self.rest);
     }
 
     // A line with it.
@@ -81,7 +81,7 @@ impl Outcome {
         for end in self.ends {
             print!(rt; "{end} ")?;
         }
-        println!(rt; "{:08x} {:08x}", self.listed.0, self.rest.0)
+        println!(rt; "{} {}", self.listed, self.rest)
     }
 }
 
@@ -96,5 +96,5 @@ pub fn show_call(
     show_answer(rt, answer)?;
     let mut listed = Sum::ZERO;
     mix_places(&mut listed, places);
-    println!(rt; "{:08x}", listed.0)
+    println!(rt; "{listed}")
 }

@@ -11,6 +11,7 @@ use pairs::{Damaged, Pair};
 use patterns::Pattern;
 use seeds::{Seed, Sum};
 use std::io;
+use std::process::ExitCode;
 
 mod calls;
 mod fields;
@@ -144,11 +145,12 @@ impl Bench {
                 accepted = accepted.wrapping_add(1);
             }
         }
-        println!(rt; "{accepted} {:08x}", sum.0)
+        println!(rt; "{accepted} {sum}")
     }
 }
 
-fn main(rt: HostRuntime) -> io::Result<()> {
+// All parts.
+fn all(rt: &impl Print) -> io::Result<()> {
     let mut bench = Bench {
         bytes: [0; memory::SIZE],
         first: [0; IMAGE_SIZE],
@@ -156,10 +158,14 @@ fn main(rt: HostRuntime) -> io::Result<()> {
         places: [u32::MAX; PLACES],
         seed: Seed::new(256),
     };
-    bench.show_all(&rt)?;
-    bench.show_parts(&rt)?;
+    bench.show_all(rt)?;
+    bench.show_parts(rt)?;
     for _ in 0..LINES {
-        bench.line(&rt)?;
+        bench.line(rt)?;
     }
     Ok(())
+}
+
+fn main(rt: HostRuntime) -> ExitCode {
+    seeds::status(all(&rt))
 }

@@ -11,6 +11,7 @@ use image_seeds::damage::Case;
 use machine::State;
 use seeds::{Seed, Sum, spoiled};
 use std::io;
+use std::process::ExitCode;
 
 // Lines of the second part of the output, and cases of one of them.
 const LINES: u32 = 128;
@@ -71,14 +72,14 @@ fn any_state(seed: &mut Seed, state: State) -> State {
 
 // Adds what a write answers to the sum.
 fn mix_written(sum: &mut Sum, answer: &WriteAnswer) {
-    sum.mix(answer.number as u32);
+    sum.mix(answer.number);
     sum.mix_state(answer.state);
 }
 
 // Adds what a read answers to the sum.
 fn mix_read(sum: &mut Sum, answer: &ReadAnswer) {
-    sum.mix(answer.number as u32);
-    sum.mix(answer.block as u32);
+    sum.mix(answer.number);
+    sum.mix(answer.block);
     sum.mix_state(answer.state);
 }
 
@@ -109,11 +110,11 @@ fn read_parts(
 impl Outcome {
     // Adds it to the sum.
     fn mix_into(&self, sum: &mut Sum) {
-        sum.mix(self.number as u32);
-        sum.mix(self.block as u32);
-        sum.mix(self.answers.0);
-        sum.mix(self.memory.0);
-        sum.mix(self.image.0);
+        sum.mix(self.number);
+        sum.mix(self.block);
+        sum.mix(self.answers);
+        sum.mix(self.memory);
+        sum.mix(self.image);
     }
 }
 
@@ -184,10 +185,7 @@ impl Bench {
             "{} {} {} {} ",
             case.kind, case.edition, outcome.number, outcome.block
         )?;
-        println!(rt;
-            "{:08x} {:08x} {:08x}",
-            outcome.answers.0, outcome.memory.0, outcome.image.0
-        )
+        println!(rt; "{} {} {}", outcome.answers, outcome.memory, outcome.image)
     }
 
     // Any case; of the kinds about half are none.
@@ -211,7 +209,7 @@ impl Bench {
                 accepted = accepted.wrapping_add(1);
             }
         }
-        println!(rt; "{accepted} {:08x}", sum.0)
+        println!(rt; "{accepted} {sum}")
     }
 }
 
@@ -240,16 +238,12 @@ fn show_longer(rt: &impl Print) -> io::Result<()> {
     for number in read_longer(&image, &mut bytes) {
         print!(rt; "{number} ")?;
     }
-    println!(rt;
-        "{:08x} {:08x}",
-        Sum::of_bytes(&bytes).0,
-        Sum::of_bytes(&image).0
-    )
+    println!(rt; "{} {}", Sum::of_bytes(&bytes), Sum::of_bytes(&image))
 }
 
 // Every kind of damage in every class of places in either edition, and then many cases.
-fn main(rt: HostRuntime) -> io::Result<()> {
-    show_longer(&rt)?;
+fn all(rt: &impl Print) -> io::Result<()> {
+    show_longer(rt)?;
     let mut bench = Bench {
         bytes: [0; memory::SIZE],
         image: [0; IMAGE_SIZE],
@@ -264,12 +258,16 @@ fn main(rt: HostRuntime) -> io::Result<()> {
                     kind,
                     place,
                 };
-                bench.show(&rt, case)?;
+                bench.show(rt, case)?;
             }
         }
     }
     for _ in 0..LINES {
-        bench.line(&rt)?;
+        bench.line(rt)?;
     }
     Ok(())
+}
+
+fn main(rt: HostRuntime) -> ExitCode {
+    seeds::status(all(&rt))
 }

@@ -12,6 +12,7 @@ use memory::Width;
 use notation::Words;
 use seeds::{Seed, Sum};
 use std::io;
+use std::process::ExitCode;
 
 // Lines that are shown, and the factor that varies the bits of a word within its step.
 const SHOWN: u16 = 108;
@@ -211,9 +212,9 @@ impl Tally {
     fn add(&mut self, answer: ListAnswer, text: &[u8])
         requires { answer.length ≤ least_buffer }
     {
-        self.sum.mix(answer.number as u32);
+        self.sum.mix(answer.number);
         self.sum.mix(answer.length as u32);
-        self.sum.mix(answer.words as u32);
+        self.sum.mix(answer.words);
         self.sum.mix_bytes(text);
         self.length = self.length.wrapping_add(answer.length as u64);
         if answer.number == 0 {
@@ -261,17 +262,15 @@ impl Bench {
         for i in 0..WORDS {
             self.one(pass, first + i, &mut tally);
         }
-        println!(rt;
-            "{first} {} {} {:08x}",
-            tally.accepted, tally.length, tally.sum.0
-        )
+        println!(rt; "{first} {} {} {}", tally.accepted, tally.length, tally.sum)
     }
 }
 
-fn main(rt: HostRuntime) -> io::Result<()> {
+// The shown lines, and all passes.
+fn all(rt: &impl Print) -> io::Result<()> {
     let mut bytes = [0; memory::SIZE];
     for n in 0..SHOWN {
-        show(&rt, &mut bytes, shown_word(n))?;
+        show(rt, &mut bytes, shown_word(n))?;
     }
     let mut bench = Bench {
         bytes: [0; memory::SIZE],
@@ -279,8 +278,12 @@ fn main(rt: HostRuntime) -> io::Result<()> {
     };
     for pass in PASSES {
         for line in 0..LINES {
-            bench.line(&rt, pass, line * WORDS)?;
+            bench.line(rt, pass, line * WORDS)?;
         }
     }
     Ok(())
+}
+
+fn main(rt: HostRuntime) -> ExitCode {
+    seeds::status(all(&rt))
 }

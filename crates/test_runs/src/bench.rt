@@ -82,7 +82,7 @@ fn mix_count(sum: &mut Sum, count: usize) {
 
 // Adds all that a run answers to the sum.
 pub fn mix_run(sum: &mut Sum, answer: &RunAnswer) {
-    sum.mix(answer.number as u32);
+    sum.mix(answer.number);
     mix_count(sum, answer.steps);
     mix_count(sum, answer.unassigned);
     sum.mix_answer(answer.last);

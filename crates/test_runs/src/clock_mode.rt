@@ -100,5 +100,5 @@ pub fn line(rt: &impl Print, bench: &mut Bench) -> io::Result<()> {
     for _ in 0..MEMORIES {
         one(bench, &mut tally);
     }
-    println!(rt; "{} {} {:08x}", tally.moved, tally.frozen, tally.sum.0)
+    println!(rt; "{} {} {}", tally.moved, tally.frozen, tally.sum)
 }

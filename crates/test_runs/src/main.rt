@@ -8,6 +8,7 @@ use programs::Theme;
 use replay_core::run;
 use seeds::{Seed, Sum, spoiled};
 use std::io;
+use std::process::ExitCode;
 
 mod bench;
 mod clock_mode;
@@ -134,7 +135,7 @@ fn line(rt: &impl Print, bench: &mut Bench) -> io::Result<()> {
     for _ in 0..MEMORIES {
         one(bench, &mut tally);
     }
-    println!(rt; "{} {} {:08x}", tally.steps, tally.unassigned, tally.sum.0)
+    println!(rt; "{} {} {}", tally.steps, tally.unassigned, tally.sum)
 }
 
 // Calls on memories of another size than the machine's.
@@ -148,25 +149,30 @@ fn other_sizes(rt: &impl Print) -> io::Result<()> {
     state.mix_state(up.state);
     let memory = Sum::of_bytes(&long);
     print!(rt; "{} {} {} ", up.number, ran.number, up_short.number)?;
-    println!(rt; "{:08x} {:08x}", state.0, memory.0)
+    println!(rt; "{state} {memory}")
 }
 
-fn main(rt: HostRuntime) -> io::Result<()> {
+// All parts.
+fn all(rt: &impl Print) -> io::Result<()> {
     let mut bench = Bench {
         bytes: [0; memory::SIZE],
         copy: [0; memory::SIZE],
         records: [0; RECORDS],
         seed: Seed::new(9900),
     };
-    other_sizes(&rt)?;
+    other_sizes(rt)?;
     for _ in 0..LINES {
-        line(&rt, &mut bench)?;
+        line(rt, &mut bench)?;
     }
     for _ in 0..clock_mode::LINES {
-        clock_mode::line(&rt, &mut bench)?;
+        clock_mode::line(rt, &mut bench)?;
     }
     for _ in 0..read_only::LINES {
-        read_only::line(&rt, &mut bench)?;
+        read_only::line(rt, &mut bench)?;
     }
     Ok(())
+}
+
+fn main(rt: HostRuntime) -> ExitCode {
+    seeds::status(all(&rt))
 }

@@ -113,5 +113,5 @@ pub fn line(rt: &impl Print, bench: &mut Bench) -> io::Result<()> {
     for _ in 0..MEMORIES {
         one(bench, &mut tally);
     }
-    println!(rt; "{} {:08x}", tally.other, tally.sum.0)
+    println!(rt; "{} {}", tally.other, tally.sum)
 }

@@ -8,6 +8,7 @@ use machine::{State, bus};
 use memory::Width;
 use seeds::{Seed, Sum};
 use std::io;
+use std::process::ExitCode;
 
 // Words that share a line of the output, and lines of a pass over all words.
 const WORDS: u16 = 2048;
@@ -120,7 +121,7 @@ impl Bench {
     fn mix_registers(&self, sum: &mut Sum, wp: u16) {
         for n in 0..16 {
             let value = memory::load(&self.bytes, Width::Word, bus::register_at(wp, n));
-            sum.mix(value as u32);
+            sum.mix(value);
         }
     }
 
@@ -159,22 +160,24 @@ impl Bench {
             self.one(first + i, pass, &mut tally);
         }
         let memory = Sum::of_bytes(&self.bytes);
-        println!(rt;
-            "{first} {} {:08x} {:08x}",
-            tally.unassigned, tally.sum.0, memory.0
-        )
+        println!(rt; "{first} {} {} {memory}", tally.unassigned, tally.sum)
     }
 }
 
-fn main(rt: HostRuntime) -> io::Result<()> {
+// All passes.
+fn all(rt: &impl Print) -> io::Result<()> {
     let mut bench = Bench {
         bytes: [0; memory::SIZE],
         seed: Seed::new(9980),
     };
     for pass in PASSES {
         for line in 0..LINES {
-            bench.line(&rt, line * WORDS, pass)?;
+            bench.line(rt, line * WORDS, pass)?;
         }
     }
     Ok(())
+}
+
+fn main(rt: HostRuntime) -> ExitCode {
+    seeds::status(all(&rt))
 }
