@@ -1,16 +1,17 @@
 // Inputs for the test programs, made from a seed, and sums of what came out. The independent program makes the same ones.
 #![tactic(auto)]
 
-ghost use Rattle.std.specs.Prelude.{◌<◌};
+ghost use Rattle.std.specs.Prelude.{◌≡◌, ◌<◌, cond};
+ghost use Rattle.std.specs.Result.{is_ok};
+ghost use Rattle.std.specs.Process.{exit_status};
 
 mod records;
 pub mod roms;
 pub mod spoiled;
 pub mod states;
 
-use std::fmt;
-use std::io;
 use std::process::ExitCode;
+use std::{fmt, io};
 
 // A linear congruential generator over 32 bits, of which the high half is used.
 #[derive(Drop)]
@@ -94,7 +95,9 @@ impl fmt::Display for Sum {
 
 // The status of a program that has printed its lines, or has not. (Returned from `main`, the error would be told in words of the C library,
 // of which one more function would be assumed.)
-pub fn status(printed: io::Result<()>) -> ExitCode {
+pub fn status(printed: io::Result<()>) -> ExitCode
+    ensures { exit_status result ≡ cond (is_ok printed) 0 1 }
+{
     match printed {
         Ok(()) => ExitCode::SUCCESS,
         Err(_) => ExitCode::FAILURE,

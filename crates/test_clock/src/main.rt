@@ -73,7 +73,8 @@ fn ticks_to_zero(seed: &mut Seed, psi: Psi) -> u32
     (psi.decrementer as u32 + later + seed.below(4) as u32).saturating_sub(2)
 }
 
-// Cycles as a record has them; or of some ticks and a part of one, any number of 16 bits, or around a tick that brings the decrementer to 0.
+// Cycles as a record has them; or of some ticks and a part of one: any number of ticks of 16 bits, or some around a tick that brings the
+// decrementer to 0.
 fn near_cycles(seed: &mut Seed, psi: Psi) -> u32 {
     let ticks = match seed.below(4) {
         0 => return seed.below(1024) as u32,

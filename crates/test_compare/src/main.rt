@@ -4,7 +4,7 @@
 
 use calls::Outcome;
 use differing_runs::PLACES;
-use image_blocks::IMAGE_SIZE;
+use image_blocks::{EDITION, FIRST_EDITION, IMAGE_SIZE};
 use image_seeds::damage;
 use machine::State;
 use pairs::{Damaged, Pair};
@@ -24,7 +24,7 @@ const LINES: u32 = 128;
 const PAIRS: u32 = 20;
 
 // Both editions.
-const EDITIONS: [u16; 2] = [image_blocks::FIRST_EDITION, image_blocks::EDITION];
+const EDITIONS: [u16; 2] = [FIRST_EDITION, EDITION];
 
 // The length of a buffer with one byte more than an image has.
 const LONG: usize = IMAGE_SIZE + 1;
@@ -92,7 +92,8 @@ impl Bench {
     // those with each kind of damage.
     fn show_all(&mut self, rt: &impl Print) -> io::Result<()> {
         for row in patterns::CHOSEN {
-            self.show(rt, Pair::whole(Pattern::runs(row), 0, 2, 2))?;
+            let pattern = Pattern::runs(row);
+            self.show(rt, Pair::whole(pattern, 0, EDITION, EDITION))?;
         }
         for k in fields::FIRST..fields::END {
             for first in EDITIONS {
