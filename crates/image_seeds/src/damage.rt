@@ -1,11 +1,12 @@
 // Images of both editions, changed in one place or two, most of them with the block's check word made right again.
-ghost use Rattle.std.specs.Prelude.{◌≡◌, ◌+◌, ◌<◌, length};
+ghost use Rattle.std.specs.Prelude.{◌+◌, ◌<◌};
 ghost use Rattle.image_blocks.specs.Image as Image;
 
+use image_blocks::IMAGE_SIZE;
 use machine::State;
-use seeds::{below, spoiled};
+use seeds::{Seed, spoiled};
 
-// How many kinds of damage there are, and classes of places.
+// How many kinds of damage there are, and classes of places. The kinds stay numbers: they are drawn, counted over and printed.
 pub const KINDS: u16 = 24;
 
 pub const PLACES: u16 = 3;
@@ -18,10 +19,11 @@ pub const NONE: u16 = KINDS - 1;
 // How many blocks an image has.
 const BLOCKS: u16 = image_blocks::BLOCKS as u16;
 
-// The state's fields in block 0, after format and edition: where they begin, and how many there are before the read-only address.
-const STATE_AT: usize = image_blocks::CONTENT + 4;
+// How many words of a block its check word covers.
+const CHECKED: usize = image_blocks::CHECK / 2;
 
-const STATE_FIELDS: usize = image_blocks::ROM_FIELD - 2;
+// Where the state's fields begin in block 0, after format and edition.
+const STATE_AT: usize = image_blocks::CONTENT + 4;
 
 // The numbers of edition and read-only address among block 0's words, of which the first is the block's number.
 const EDITION: usize = 2;
@@ -37,67 +39,52 @@ pub struct Case {
 }
 
 // The word that starts at a byte.
-fn word_at(image: &[u8], at: usize) -> u16
-    requires { at + 1 < length image.now }
+fn word_at(image: &[u8; IMAGE_SIZE], at: usize) -> u16
+    requires { at + 1 < Image.image_size }
 {
     memory::word(image[at], image[at + 1])
 }
 
 // Puts a word at a byte.
-fn put(image: &mut [u8], at: usize, word: u16)
-    requires { at + 1 < length image.old }
+fn put(image: &mut [u8; IMAGE_SIZE], at: usize, word: u16)
+    requires { at + 1 < Image.image_size }
 {
-    image[at] = (word / 256) as u8;
-    image[at + 1] = (word % 256) as u8;
+    image[at..at + 2].copy_from_slice(&word.to_be_bytes());
 }
 
 // A difference that is not 0: of one byte or of both.
-fn difference(seed: &mut u32) -> u16 {
-    match below(seed, 4) {
+fn difference(seed: &mut Seed) -> u16 {
+    match seed.below(4) {
         0 => 1,
         1 => 256,
         2 => 65535,
-        _ => 1 + below(seed, 65535),
+        _ => 1 + seed.below(65535),
     }
 }
 
 // Adds a difference to word `n` of a block.
-fn change(image: &mut [u8], seed: &mut u32, block: usize, n: usize)
-    requires image_len { length image.old ≡ Image.image_size }
+fn change(image: &mut [u8; IMAGE_SIZE], seed: &mut Seed, block: usize, n: usize)
     requires block_bound { block < Image.block_count }
     requires n_bound { n < 256 }
 {
     let at = image_blocks::BLOCK_SIZE * block + 2 * n;
     let word = word_at(image, at);
-    put(
-        image,
-        at,
-        std::num::wrapping_add_u16(word, difference(seed)),
-    );
+    put(image, at, word.wrapping_add(difference(seed)));
 }
 
 // Makes a block's check word right.
-fn mend(image: &mut [u8], block: usize)
-    requires image_len { length image.old ≡ Image.image_size }
-    requires block_bound { block < Image.block_count }
+fn mend(image: &mut [u8; IMAGE_SIZE], block: usize)
+    requires { block < Image.block_count }
 {
     let first = image_blocks::BLOCK_SIZE * block;
-    let mut sum: u16 = 0;
-    let mut n = 0;
-    while n < 255 {
-        sum = std::num::wrapping_add_u16(sum, word_at(image, first + 2 * n));
-        n += 1;
-    }
-    put(
-        image,
-        first + image_blocks::CHECK,
-        std::num::wrapping_sub_u16(image_blocks::SUM, sum),
-    );
+    let check = (0..CHECKED).fold(image_blocks::SUM, |rest, n| {
+        rest.wrapping_sub(word_at(image, first + 2 * n))
+    });
+    put(image, first + image_blocks::CHECK, check);
 }
 
 // Changes word `n` of a block, whose check word is right after it.
-fn change_and_mend(image: &mut [u8], seed: &mut u32, block: usize, n: usize)
-    requires image_len { length image.old ≡ Image.image_size }
+fn change_and_mend(image: &mut [u8; IMAGE_SIZE], seed: &mut Seed, block: usize, n: usize)
     requires block_bound { block < Image.block_count }
     requires n_bound { n < 256 }
 {
@@ -106,63 +93,53 @@ fn change_and_mend(image: &mut [u8], seed: &mut u32, block: usize, n: usize)
 }
 
 // A block of a class: the first, one in the middle, the last.
-fn block_at(seed: &mut u32, place: u16) -> usize
+fn block_at(seed: &mut Seed, place: u16) -> usize
     ensures { result < Image.block_count }
 {
     match place {
         0 => 0,
-        1 => 1 + below(seed, BLOCKS - 2) as usize,
+        1 => 1 + seed.below(BLOCKS - 2) as usize,
         _ => image_blocks::LAST,
     }
 }
 
 // Puts word `n` of block 0 in place, whose check word is right after it.
-fn put_and_mend(image: &mut [u8], n: usize, word: u16)
-    requires image_len { length image.old ≡ Image.image_size }
-    requires n_bound { n < 256 }
+fn put_and_mend(image: &mut [u8; IMAGE_SIZE], n: usize, word: u16)
+    requires { n < 256 }
 {
     put(image, 2 * n, word);
     mend(image, 0);
 }
 
 // Puts a read-only address into block 0.
-fn put_rom(image: &mut [u8], rom: u32)
-    requires { length image.old ≡ Image.image_size }
-{
+fn put_rom(image: &mut [u8; IMAGE_SIZE], rom: u32) {
     put_and_mend(image, ROM, (rom % 65536) as u16);
 }
 
 // Puts a state's words into block 0, all but the read-only address.
-fn put_words(image: &mut [u8], state: State)
-    requires { length image.old ≡ Image.image_size }
-{
-    let psi = state.psi;
+fn put_words(image: &mut [u8; IMAGE_SIZE], state: State) {
     let words = [
         state.wp,
         state.pc,
         state.st,
         state.flags,
-        psi.mask,
-        psi.direction,
-        psi.latch,
-        psi.load,
-        psi.decrementer,
-        psi.reading,
-        psi.phase,
-        psi.pending,
+        state.psi.mask,
+        state.psi.direction,
+        state.psi.latch,
+        state.psi.load,
+        state.psi.decrementer,
+        state.psi.reading,
+        state.psi.phase,
+        state.psi.pending,
     ];
-    let mut n = 0;
-    while n < STATE_FIELDS {
-        put(image, STATE_AT + 2 * n, words[n]);
-        n += 1;
+    for (n, word) in words.iter().enumerate() {
+        put(image, STATE_AT + 2 * n, *word);
     }
     mend(image, 0);
 }
 
 // Puts a state's words into block 0 of an image of this edition.
-pub fn put_state(image: &mut [u8], state: State, edition: u16)
-    requires { length image.old ≡ Image.image_size }
-{
+pub fn put_state(image: &mut [u8; IMAGE_SIZE], state: State, edition: u16) {
     put_words(image, state);
     if edition == image_blocks::EDITION {
         put_rom(image, state.rom);
@@ -170,9 +147,7 @@ pub fn put_state(image: &mut [u8], state: State, edition: u16)
 }
 
 // Makes an image of edition 2 one of this edition.
-pub fn put_edition(image: &mut [u8], edition: u16)
-    requires { length image.old ≡ Image.image_size }
-{
+pub fn put_edition(image: &mut [u8; IMAGE_SIZE], edition: u16) {
     if edition == image_blocks::FIRST_EDITION {
         put_and_mend(image, EDITION, edition);
         put_rom(image, 0);
@@ -180,92 +155,70 @@ pub fn put_edition(image: &mut [u8], edition: u16)
 }
 
 // A word of block 0's filler, which begins earlier in edition 1.
-fn filler(seed: &mut u32, edition: u16) -> usize
+fn filler(seed: &mut Seed, edition: u16) -> usize
     ensures { result < 256 }
 {
     if edition == image_blocks::EDITION {
-        return 16 + below(seed, 239) as usize;
-    }
-    15 + below(seed, 240) as usize
-}
-
-// Damage to block 0 and to the filler.
-fn damage_content(image: &mut [u8], seed: &mut u32, kind: u16, edition: u16)
-    requires { length image.old ≡ Image.image_size }
-{
-    match kind {
-        15 => change_and_mend(image, seed, 0, 1),
-        16 => change_and_mend(image, seed, 0, EDITION),
-        17 => {
-            let word = below(seed, 5);
-            put_and_mend(image, EDITION, word)
-        }
-        18 => {
-            let rom = 2 * below(seed, 8193);
-            put_and_mend(image, ROM, rom)
-        }
-        19 => {
-            let n = filler(seed, edition);
-            change_and_mend(image, seed, 0, n)
-        }
-        _ => {
-            let n = 65 + below(seed, 190) as usize;
-            change_and_mend(image, seed, image_blocks::LAST, n)
-        }
-    }
-}
-
-// Damage to the block of this number.
-fn damage_block(image: &mut [u8], seed: &mut u32, kind: u16, block: usize)
-    requires image_len { length image.old ≡ Image.image_size }
-    requires block_bound { block < Image.block_count }
-{
-    match kind {
-        12 => {
-            let n = below(seed, 255) as usize;
-            change(image, seed, block, n)
-        }
-        13 => change(image, seed, block, 255),
-        14 => change_and_mend(image, seed, block, 0),
-        21 => {
-            let n = 1 + below(seed, 254) as usize;
-            change_and_mend(image, seed, block, n)
-        }
-        _ => {
-            let other = below(seed, BLOCKS) as usize;
-            change_and_mend(image, seed, block, 0);
-            change(image, seed, other, 7)
-        }
-    }
-}
-
-// Damage to the state's words; to the read-only address alone where that is spoiled, which is filler in edition 1.
-fn damage_state(image: &mut [u8], seed: &mut u32, state: State, kind: u16, edition: u16)
-    requires { length image.old ≡ Image.image_size }
-{
-    let bad = spoiled::spoiled(seed, state, kind);
-    if kind < spoiled::ROM_STAYS {
-        put_state(image, bad, edition);
+        16 + seed.below(239) as usize
     } else {
-        put_rom(image, bad.rom);
+        15 + seed.below(240) as usize
     }
 }
 
-// Damage of the case's kind, in a block of its class where the kind leaves a choice. The last kind is none, and so are any further.
-pub fn damage(image: &mut [u8], seed: &mut u32, state: State, case: Case)
-    requires { length image.old ≡ Image.image_size }
-{
-    let kind = case.kind;
-    if kind < spoiled::WORD_WAYS {
-        damage_state(image, seed, state, kind, case.edition);
-        return;
+impl Case {
+    // Damage to the state's words; to the read-only address alone where that is spoiled, which is filler in edition 1.
+    fn damage_state(self, image: &mut [u8; IMAGE_SIZE], seed: &mut Seed, state: State) {
+        let bad = seed.spoiled(state, self.kind);
+        if self.kind < spoiled::ROM_STAYS {
+            put_state(image, bad, self.edition);
+        } else {
+            put_rom(image, bad.rom);
+        }
     }
-    if NONE <= kind {
-        return;
+
+    // Damage to block 0, to the filler, or to a block of the case's class. The last kind is none, and so are any further.
+    fn damage_block(self, image: &mut [u8; IMAGE_SIZE], seed: &mut Seed) {
+        if NONE <= self.kind {
+            return;
+        }
+        let block = block_at(seed, self.place);
+        match self.kind {
+            12 => {
+                let n = seed.below(255) as usize;
+                change(image, seed, block, n);
+            }
+            13 => change(image, seed, block, 255),
+            14 => change_and_mend(image, seed, block, 0),
+            15 => change_and_mend(image, seed, 0, 1),
+            16 => change_and_mend(image, seed, 0, EDITION),
+            17 => put_and_mend(image, EDITION, seed.below(5)),
+            18 => put_and_mend(image, ROM, 2 * seed.below(8193)),
+            FILLER => {
+                let n = filler(seed, self.edition);
+                change_and_mend(image, seed, 0, n);
+            }
+            20 => {
+                let n = 65 + seed.below(190) as usize;
+                change_and_mend(image, seed, image_blocks::LAST, n);
+            }
+            21 => {
+                let n = 1 + seed.below(254) as usize;
+                change_and_mend(image, seed, block, n);
+            }
+            _ => {
+                let other = seed.below(BLOCKS) as usize;
+                change_and_mend(image, seed, block, 0);
+                change(image, seed, other, 7);
+            }
+        }
     }
-    let block = block_at(seed, case.place);
-    match kind {
-        15..=20 => damage_content(image, seed, kind, case.edition),
-        _ => damage_block(image, seed, kind, block),
+
+    // Damages an image of this state and of the case's edition.
+    pub fn damage(self, image: &mut [u8; IMAGE_SIZE], seed: &mut Seed, state: State) {
+        if self.kind < spoiled::WORD_WAYS {
+            self.damage_state(image, seed, state);
+        } else {
+            self.damage_block(image, seed);
+        }
     }
 }

@@ -4,21 +4,21 @@
 ghost use Rattle.std.specs.Prelude.{◌<◌};
 
 use machine::State;
-use seeds::{below, roms, states};
+use seeds::Seed;
 
 pub mod damage;
 
 // A state with a read-only address, and flags below `limit`.
-pub fn read_only_state(seed: &mut u32, limit: u16) -> State
+pub fn read_only_state(seed: &mut Seed, limit: u16) -> State
     requires { 0 < limit }
 {
-    let flags = below(seed, limit);
-    let mut state = states::state(seed, flags);
-    state.rom = roms::plain(seed);
+    let flags = seed.below(limit);
+    let mut state = seed.state(flags);
+    state.rom = seed.rom();
     state
 }
 
 // Either edition.
-pub fn any_edition(seed: &mut u32) -> u16 {
-    1 + below(seed, 2)
+pub fn any_edition(seed: &mut Seed) -> u16 {
+    1 + seed.below(2)
 }

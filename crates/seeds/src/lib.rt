@@ -1,61 +1,105 @@
 // Inputs for the test programs, made from a seed, and sums of what came out. The independent program makes the same ones.
 #![tactic(auto)]
 
-ghost use Rattle.std.specs.Prelude.{◌<◌};
+ghost use Rattle.std.specs.Prelude.{◌≡◌, ◌<◌, cond};
+ghost use Rattle.std.specs.Result.{is_ok};
+ghost use Rattle.std.specs.Process.{exit_status};
 
-pub mod lines;
-pub mod records;
+mod records;
 pub mod roms;
 pub mod spoiled;
 pub mod states;
 
-// The next number of 16 bits: a linear congruential generator over 32 bits, of which the high half is used.
-pub fn word(seed: &mut u32) -> u16 {
-    let next = (*seed as u64 * 1664525 + 1013904223) % 4294967296;
-    *seed = next as u32;
-    (next / 65536) as u16
-}
+use std::process::ExitCode;
+use std::{fmt, io};
 
-// A number below `limit`.
-pub fn below(seed: &mut u32, limit: u16) -> u16
-    requires { 0 < limit }
-    ensures { result < limit }
-{
-    word(seed) % limit
-}
+// A linear congruential generator over 32 bits, of which the high half is used.
+#[derive(Drop)]
+pub struct Seed(u32);
 
-// True once in `n` times.
-pub fn once_in(seed: &mut u32, n: u16) -> bool
-    requires { 0 < n }
-{
-    below(seed, n) == 0
-}
-
-// The sum with one number more.
-pub fn mix(sum: u32, x: u32) -> u32 {
-    ((sum as u64 * 16777619 + x as u64) % 4294967296) as u32
-}
-
-fn wide(byte: u8) -> u32 {
-    byte as u32
-}
-
-// The sum with all these bytes more.
-pub fn mix_bytes(sum: u32, bytes: &[u8]) -> u32 {
-    let mut mixed = sum;
-    let mut i = 0;
-    while i < bytes.len() {
-        mixed = mix(mixed, wide(bytes[i]));
-        i += 1;
+impl Seed {
+    pub fn new(start: u32) -> Self {
+        Seed(start)
     }
-    mixed
+
+    // The next number of 16 bits.
+    pub fn word(&mut self) -> u16 {
+        self.0 = self.0.wrapping_mul(1664525).wrapping_add(1013904223);
+        (self.0 >> 16) as u16
+    }
+
+    // A number below `limit`.
+    pub fn below(&mut self, limit: u16) -> u16
+        requires { 0 < limit }
+        ensures { result < limit }
+    {
+        self.word() % limit
+    }
+
+    // True once in `n` times.
+    pub fn once_in(&mut self, n: u16) -> bool
+        requires { 0 < n }
+    {
+        self.below(n) == 0
+    }
+
+    // Fills the bytes.
+    pub fn fill(&mut self, bytes: &mut [u8]) {
+        for byte in bytes {
+            *byte = (self.word() >> 8) as u8;
+        }
+    }
 }
 
-// Fills the bytes.
-pub fn fill(bytes: &mut [u8], seed: &mut u32) {
-    let mut i = 0;
-    while i < bytes.len() {
-        bytes[i] = (word(seed) / 256) as u8;
-        i += 1;
+// A sum over numbers in their order.
+#[derive(Clone, Copy)]
+pub struct Sum(u32);
+
+impl Sum {
+    // The sum of nothing.
+    pub const ZERO: Sum = Sum(0);
+
+    // Takes one number more.
+    pub fn mix(&mut self, x: impl Into<u32>) {
+        self.0 = self.0.wrapping_mul(16777619).wrapping_add(x.into());
+    }
+
+    // Takes all these bytes.
+    pub fn mix_bytes(&mut self, bytes: &[u8]) {
+        for byte in bytes {
+            self.mix(*byte);
+        }
+    }
+
+    // The sum of these bytes alone.
+    pub fn of_bytes(bytes: &[u8]) -> Self {
+        let mut sum = Sum(0);
+        sum.mix_bytes(bytes);
+        sum
+    }
+}
+
+// A sum may itself be summed up.
+impl From<Sum> for u32 {
+    fn from(sum: Sum) -> Self {
+        sum.0
+    }
+}
+
+// A sum is printed in hexadecimal, with all its digits.
+impl fmt::Display for Sum {
+    fn fmt<W: fmt::Write>(&self, f: &mut fmt::Formatter<W>) -> fmt::Result {
+        write!(f, "{:08x}", self.0)
+    }
+}
+
+// The status of a program that has printed its lines, or has not. (Returned from `main`, the error would be told in words of the C library,
+// of which one more function would be assumed.)
+pub fn status(printed: io::Result<()>) -> ExitCode
+    ensures { exit_status result ≡ cond (is_ok printed) 0 1 }
+{
+    match printed {
+        Ok(()) => ExitCode::SUCCESS,
+        Err(_) => ExitCode::FAILURE,
     }
 }

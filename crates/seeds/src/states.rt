@@ -1,7 +1,7 @@
 // Words, addresses and states from a seed; the sum of a state.
 ghost use Rattle.std.specs.Prelude.{◌<◌};
 
-use super::{below, mix, once_in, word};
+use super::{Seed, Sum};
 use machine::{State, StepAnswer};
 use psi::Psi;
 
@@ -9,116 +9,122 @@ use psi::Psi;
 pub const CLOCK_NUMBERS: u16 = Psi::CLOCK_LARGEST + 1;
 
 // Numbers that instructions treat in different ways.
-fn marked(n: u16) -> u16 {
-    match n {
-        0 => 0,
-        1 => 1,
-        2 => 2,
-        3 => 0x7FFF,
-        4 => 0x8000,
-        5 => 0xFFFF,
-        6 => 0x00FF,
-        _ => 0x0100,
+const MARKED: [u16; 8] = [0, 1, 2, 0x7FFF, 0x8000, 0xFFFF, 0x00FF, 0x0100];
+
+impl Seed {
+    // A word of memory; some are addresses just after `near`.
+    pub fn value(&mut self, near: u16) -> u16 {
+        match self.below(4) {
+            0 => MARKED[self.below(8) as usize],
+            1 => near.wrapping_add(self.below(64)),
+            2 => self.below(1024),
+            _ => self.word(),
+        }
+    }
+
+    // An even address; some lie just before 65536 and some just after 0.
+    pub fn address(&mut self) -> u16 {
+        match self.below(8) {
+            0 => 0xFFE0 + self.below(16) * 2,
+            1 => self.below(64) * 2,
+            _ => self.word() & !1,
+        }
+    }
+
+    // Mostly `usual`, else a number below `limit`.
+    fn mostly(&mut self, usual: u16, limit: u16) -> u16
+        requires { 0 < limit }
+    {
+        let other = self.below(limit);
+        if self.once_in(3) { usual } else { other }
+    }
+
+    // Control and masks: no mask, masks of the requests for levels alone, or any.
+    fn masks(&mut self) -> u16 {
+        match self.below(4) {
+            0 => self.below(2),
+            1 => self.word() & 0x7879,
+            _ => self.word(),
+        }
+    }
+
+    // A well-formed PSI.
+    pub fn psi(&mut self) -> Psi {
+        let mask = self.masks();
+        let direction = if self.once_in(4) { self.word() } else { 0 };
+        let latch = self.word() & direction;
+        let load = self.mostly(0, CLOCK_NUMBERS);
+        let soon = self.below(4);
+        let decrementer = self.mostly(soon, CLOCK_NUMBERS);
+        let other = self.below(CLOCK_NUMBERS);
+        let reading = if mask % 2 == 0 { decrementer } else { other };
+        Psi {
+            mask,
+            direction,
+            latch,
+            load,
+            decrementer,
+            reading,
+            phase: self.below(Psi::TICK_CYCLES),
+            pending: self.below(2),
+        }
+    }
+
+    // Puts a PSI into clock mode, with any number in its read register.
+    pub fn set_clock_mode(&mut self, psi: &mut Psi) {
+        psi.reading = self.below(CLOCK_NUMBERS);
+        psi.mask |= 1;
+    }
+
+    // A state with these flags, well formed but for them, with nothing read-only; some have PC in the workspace.
+    pub fn state(&mut self, flags: u16) -> State {
+        let wp = self.address();
+        let near = wp.wrapping_add(self.below(32) * 2);
+        let pc = if self.once_in(8) {
+            near
+        } else {
+            self.address()
+        };
+        State {
+            wp,
+            pc,
+            st: self.word(),
+            flags,
+            psi: self.psi(),
+            rom: State::NO_ROM,
+        }
     }
 }
 
-// A word of memory; some are addresses just after `near`.
-pub fn value(seed: &mut u32, near: u16) -> u16 {
-    match below(seed, 4) {
-        0 => marked(below(seed, 8)),
-        1 => std::num::wrapping_add_u16(near, below(seed, 64)),
-        2 => below(seed, 1024),
-        _ => word(seed),
+impl Sum {
+    // Takes the PSI's words.
+    pub fn mix_psi(&mut self, psi: Psi) {
+        for word in [
+            psi.mask,
+            psi.direction,
+            psi.latch,
+            psi.load,
+            psi.decrementer,
+            psi.reading,
+            psi.phase,
+            psi.pending,
+        ] {
+            self.mix(word);
+        }
     }
-}
 
-// An even address; some lie just before 65536 and some just after 0.
-pub fn address(seed: &mut u32) -> u16 {
-    match below(seed, 8) {
-        0 => 0xFFE0 + below(seed, 16) * 2,
-        1 => below(seed, 64) * 2,
-        _ => word(seed) / 2 * 2,
+    // Takes the state's words.
+    pub fn mix_state(&mut self, state: State) {
+        for word in [state.wp, state.pc, state.st, state.flags] {
+            self.mix(word);
+        }
+        self.mix_psi(state.psi);
+        self.mix(state.rom);
     }
-}
 
-// Mostly `usual`, else a number below `limit`.
-fn mostly(seed: &mut u32, usual: u16, limit: u16) -> u16
-    requires { 0 < limit }
-{
-    let other = below(seed, limit);
-    if once_in(seed, 3) { usual } else { other }
-}
-
-// Control and masks: no mask, masks of the requests for levels alone, or any.
-fn masks(seed: &mut u32) -> u16 {
-    match below(seed, 4) {
-        0 => below(seed, 2),
-        1 => bits::both(word(seed), 0x7879),
-        _ => word(seed),
+    // Takes a step's answer, as its two numbers.
+    pub fn mix_answer(&mut self, answer: StepAnswer) {
+        self.mix(step_answers::number(answer));
+        self.mix(step_answers::value(answer));
     }
-}
-
-// A well-formed PSI.
-pub fn psi(seed: &mut u32) -> Psi {
-    let mask = masks(seed);
-    let direction = if once_in(seed, 4) { word(seed) } else { 0 };
-    let latch = bits::both(word(seed), direction);
-    let load = mostly(seed, 0, CLOCK_NUMBERS);
-    let soon = below(seed, 4);
-    let decrementer = mostly(seed, soon, CLOCK_NUMBERS);
-    let other = below(seed, CLOCK_NUMBERS);
-    let reading = if mask % 2 == 0 { decrementer } else { other };
-    Psi {
-        mask,
-        direction,
-        latch,
-        load,
-        decrementer,
-        reading,
-        phase: below(seed, Psi::TICK_CYCLES),
-        pending: below(seed, 2),
-    }
-}
-
-// A state with these flags, well formed but for them, with nothing read-only; some have PC in the workspace.
-pub fn state(seed: &mut u32, flags: u16) -> State {
-    let wp = address(seed);
-    let near = std::num::wrapping_add_u16(wp, below(seed, 32) * 2);
-    let pc = if once_in(seed, 8) {
-        near
-    } else {
-        address(seed)
-    };
-    let st = word(seed);
-    let psi = psi(seed);
-    State {
-        wp,
-        pc,
-        st,
-        flags,
-        psi,
-        rom: State::NO_ROM,
-    }
-}
-
-// The sum with the PSI's words more.
-pub fn mix_psi(sum: u32, psi: Psi) -> u32 {
-    let first = mix(mix(sum, psi.mask as u32), psi.direction as u32);
-    let second = mix(mix(first, psi.latch as u32), psi.load as u32);
-    let third = mix(mix(second, psi.decrementer as u32), psi.reading as u32);
-    mix(mix(third, psi.phase as u32), psi.pending as u32)
-}
-
-// The sum with the state's words more.
-pub fn mix_state(sum: u32, state: State) -> u32 {
-    let psi = state.psi;
-    let first = mix(mix(sum, state.wp as u32), state.pc as u32);
-    let second = mix(mix(first, state.st as u32), state.flags as u32);
-    mix(mix_psi(second, psi), state.rom)
-}
-
-// The sum with a step's answer more, as its two numbers.
-pub fn mix_answer(sum: u32, answer: StepAnswer) -> u32 {
-    let numbered = mix(sum, step_answers::number(answer) as u32);
-    mix(numbered, step_answers::value(answer) as u32)
 }

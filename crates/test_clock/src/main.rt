@@ -3,96 +3,54 @@
 // last case.
 #![tactic(auto)]
 
-ghost use Rattle.std.specs.Prelude.{◌<◌, ◌≤◌};
+ghost use Rattle.std.specs.Prelude.{◌≤◌};
 
 use psi::Psi;
 use seeds::states::CLOCK_NUMBERS;
-use seeds::{below, lines, once_in, states, word};
+use seeds::{Seed, Sum};
+use std::io;
+use std::process::ExitCode;
 
 // The seed of all that is drawn.
 const SEED: u32 = 9901;
 
 // Lines of the first part, and cases of one of them.
-const NEAR_LINES: u16 = 32;
+const NEAR_LINES: u32 = 32;
 
-const NEAR_CASES: u16 = 512;
+const NEAR_CASES: u32 = 512;
 
 // The same of the second part.
-const FAR_LINES: u16 = 40;
+const FAR_LINES: u32 = 40;
 
-const FAR_CASES: u16 = 64;
+const FAR_CASES: u32 = 64;
 
-// The sum so far, and in how many cases pending became 1.
-#[derive(Clone, Copy)]
-struct Tally {
-    sum: u32,
-    pended: u16,
-}
-
-// The last case of the second part so far: the sum up to it, its cycles, and the PSI after them.
-#[derive(Clone, Copy)]
-struct Last {
-    sum: u32,
-    cycles: u32,
-    after: Psi,
-}
-
-// By kind: a number below 16, one of the clock's bits, or any.
-fn number(seed: &mut u32, kind: u16) -> u16 {
-    match kind {
-        4 => below(seed, 16),
-        5 | 6 => below(seed, CLOCK_NUMBERS),
-        _ => word(seed),
+// One of these four, a number below 16, one of the clock's bits, or any.
+fn pick(seed: &mut Seed, chosen: [u16; 4]) -> u16 {
+    match seed.below(8) {
+        n @ 0..4 => chosen[n as usize],
+        4 => seed.below(16),
+        5 | 6 => seed.below(CLOCK_NUMBERS),
+        _ => seed.word(),
     }
 }
 
-// A load.
-fn any_load(seed: &mut u32) -> u16 {
-    let kind = below(seed, 8);
-    match kind {
-        0 => 0,
-        1 => 1,
-        2 => 2,
-        3 => Psi::CLOCK_LARGEST,
-        _ => number(seed, kind),
-    }
+// Now and then any word in place of the usual one.
+fn any_or(seed: &mut Seed, usual: u16) -> u16 {
+    if seed.once_in(8) { seed.word() } else { usual }
 }
 
-// A decrementer; some are at the load, and some just above it.
-fn any_count(seed: &mut u32, load: u16) -> u16 {
-    let kind = below(seed, 8);
-    match kind {
-        0 => 0,
-        1 => 1,
-        2 => load,
-        3 => std::num::wrapping_add_u16(load, 1),
-        _ => number(seed, kind),
-    }
-}
-
-// A PSI with this load. Its read register need not show the decrementer.
-fn start(seed: &mut u32, load: u16) -> Psi {
-    let formed = states::psi(seed);
-    let decrementer = any_count(seed, load);
-    let pending = if once_in(seed, 8) {
-        word(seed)
-    } else {
-        formed.pending
-    };
-    let phase = if once_in(seed, 8) {
-        word(seed)
-    } else {
-        formed.phase
-    };
+// A PSI with this load. Some decrementers are at the load, and some just above it. Its read register need not show the decrementer.
+fn start(seed: &mut Seed, load: u16) -> Psi {
+    let formed = seed.psi();
+    let decrementer = pick(seed, [0, 1, load, load.wrapping_add(1)]);
+    let pending = any_or(seed, formed.pending);
+    let phase = any_or(seed, formed.phase);
     Psi {
-        mask: formed.mask,
-        direction: formed.direction,
-        latch: formed.latch,
         load,
         decrementer,
-        reading: formed.reading,
-        phase,
         pending,
+        phase,
+        ..formed
     }
 }
 
@@ -107,157 +65,99 @@ fn round(load: u16) -> u32
     }
 }
 
-// The ticks of up to three rounds.
-fn rounds(seed: &mut u32, load: u16) -> u32
-    ensures { result ≤ 0x30000 }
-{
-    let ticks = round(load);
-    match below(seed, 4) {
-        0 => 0,
-        1 => ticks,
-        2 => 2 * ticks,
-        _ => 3 * ticks,
-    }
-}
-
 // The ticks until the decrementer is 0, at once or up to three rounds later; or two or one less, or one more.
-fn ticks_to_zero(seed: &mut u32, psi: Psi) -> u32
+fn ticks_to_zero(seed: &mut Seed, psi: Psi) -> u32
     ensures { result ≤ 0x40000 }
 {
-    let later = rounds(seed, psi.load);
-    let ticks = psi.decrementer as u32 + later + below(seed, 4) as u32;
-    if ticks < 2 { 0 } else { ticks - 2 }
+    let later = seed.below(4) as u32 * round(psi.load);
+    (psi.decrementer as u32 + later + seed.below(4) as u32).saturating_sub(2)
 }
 
-// Any number of ticks of 16 bits, or some around a tick that brings the decrementer to 0.
-fn near_ticks(seed: &mut u32, psi: Psi, kind: u16) -> u32
-    ensures { result ≤ 0x40000 }
-{
-    if kind == 1 {
-        return word(seed) as u32;
-    }
-    ticks_to_zero(seed, psi)
-}
-
-// Cycles as a record has them, or of some ticks and a part of one.
-fn near_cycles(seed: &mut u32, psi: Psi) -> u32 {
-    let kind = below(seed, 4);
-    if kind == 0 {
-        return below(seed, 1024) as u32;
-    }
-    let ticks = near_ticks(seed, psi, kind);
-    ticks * 64 + below(seed, 64) as u32
+// Cycles as a record has them; or of some ticks and a part of one: any number of ticks of 16 bits, or some around a tick that brings the
+// decrementer to 0.
+fn near_cycles(seed: &mut Seed, psi: Psi) -> u32 {
+    let ticks = match seed.below(4) {
+        0 => return seed.below(1024) as u32,
+        1 => seed.word() as u32,
+        _ => ticks_to_zero(seed, psi),
+    };
+    ticks * Psi::TICK_CYCLES as u32 + seed.below(Psi::TICK_CYCLES) as u32
 }
 
 // Any number of cycles; about one in four is among the last 256.
-fn far_cycles(seed: &mut u32) -> u32 {
-    if once_in(seed, 4) {
-        return 0xFFFFFFFF - below(seed, 256) as u32;
-    }
-    let high = word(seed) as u32;
-    high * 65536 + word(seed) as u32
-}
-
-// A case of the first part.
-fn near(seed: &mut u32, tally: Tally) -> Tally {
-    let load = any_load(seed);
-    let before = start(seed, load);
-    let cycles = near_cycles(seed, before);
-    let after = before.advance(cycles);
-    let sum = states::mix_psi(seeds::mix(tally.sum, cycles), after);
-    let pended = if before.pending != 1 && after.pending == 1 {
-        std::num::wrapping_add_u16(tally.pended, 1)
+fn far_cycles(seed: &mut Seed) -> u32 {
+    if seed.once_in(4) {
+        u32::MAX - seed.below(256) as u32
     } else {
-        tally.pended
-    };
-    Tally { sum, pended }
-}
-
-// The cases of a line of the first part.
-fn near_cases(seed: &mut u32) -> Tally {
-    let mut tally = Tally { sum: 0, pended: 0 };
-    let mut n: u16 = 0;
-    while n < NEAR_CASES {
-        tally = near(seed, tally);
-        n += 1;
-    }
-    tally
-}
-
-// A line of the first part: the number of its first case, and what came of all its cases.
-fn near_line(rt: &impl Print, seed: &mut u32, line: u16)
-    requires { line < 32 }
-{
-    let tally = near_cases(seed);
-    lines::number(rt, (line * NEAR_CASES) as u64);
-    lines::number(rt, tally.pended as u64);
-    lines::last(rt, tally.sum);
-}
-
-// A case of the second part.
-fn far(seed: &mut u32, before: Psi, sum: u32) -> Last {
-    let cycles = far_cycles(seed);
-    let after = before.advance(cycles);
-    Last {
-        sum: states::mix_psi(seeds::mix(sum, cycles), after),
-        cycles,
-        after,
+        (seed.word() as u32) << 16 | seed.word() as u32
     }
 }
 
-// The cases of a line of the second part, all from one start.
-fn far_cases(seed: &mut u32, before: Psi) -> Last {
-    let mut last = Last {
-        sum: 0,
-        cycles: 0,
-        after: before,
-    };
-    let mut n: u16 = 0;
-    while n < FAR_CASES {
-        last = far(seed, before, last.sum);
-        n += 1;
+// A line of the first part: the number of its first case, in how many cases pending became 1, and the sum of all its cases.
+fn near_line(rt: &impl Print, seed: &mut Seed, first: u32) -> io::Result<()> {
+    let mut sum = Sum::ZERO;
+    let mut pended = 0u32;
+    for _ in 0..NEAR_CASES {
+        let load = pick(seed, [0, 1, 2, Psi::CLOCK_LARGEST]);
+        let before = start(seed, load);
+        let cycles = near_cycles(seed, before);
+        let after = before.advance(cycles);
+        sum.mix(cycles);
+        sum.mix_psi(after);
+        if before.pending != 1 && after.pending == 1 {
+            pended = pended.wrapping_add(1);
+        }
     }
-    last
+    println!(rt; "{first} {pended} {sum}")
 }
 
 // The load of a line of the second part.
-fn far_load(seed: &mut u32, line: u16) -> u16 {
+fn far_load(seed: &mut Seed, line: u32) -> u16 {
     match line % 5 {
         0 => 0,
         1 => 1,
         2 => 2,
         3 => Psi::CLOCK_LARGEST,
-        _ => below(seed, CLOCK_NUMBERS),
+        _ => seed.below(CLOCK_NUMBERS),
     }
 }
 
 // A line of the second part: its start, the cycles of its last case and the clock after them, and the sum of all its cases.
-fn far_line(rt: &impl Print, seed: &mut u32, line: u16) {
+fn far_line(rt: &impl Print, seed: &mut Seed, line: u32) -> io::Result<()> {
     let load = far_load(seed, line);
     let before = start(seed, load);
-    let last = far_cases(seed, before);
-    let after = last.after;
-    lines::number(rt, before.load as u64);
-    lines::number(rt, before.decrementer as u64);
-    lines::number(rt, before.phase as u64);
-    lines::number(rt, last.cycles as u64);
-    lines::number(rt, after.decrementer as u64);
-    lines::number(rt, after.reading as u64);
-    lines::number(rt, after.phase as u64);
-    lines::number(rt, after.pending as u64);
-    lines::last(rt, last.sum);
+    let mut sum = Sum::ZERO;
+    let mut cycles = 0;
+    let mut after = before;
+    for _ in 0..FAR_CASES {
+        cycles = far_cycles(seed);
+        after = before.advance(cycles);
+        sum.mix(cycles);
+        sum.mix_psi(after);
+    }
+    print!(rt;
+        "{} {} {} {cycles} ",
+        before.load, before.decrementer, before.phase
+    )?;
+    print!(rt;
+        "{} {} {} {} ",
+        after.decrementer, after.reading, after.phase, after.pending
+    )?;
+    println!(rt; "{sum}")
 }
 
-fn main(rt: HostRuntime) {
-    let mut seed: u32 = SEED;
-    let mut n: u16 = 0;
-    while n < NEAR_LINES {
-        near_line(&rt, &mut seed, n);
-        n += 1;
+// Both parts.
+fn all(rt: &impl Print) -> io::Result<()> {
+    let mut seed = Seed::new(SEED);
+    for line in 0..NEAR_LINES {
+        near_line(rt, &mut seed, line * NEAR_CASES)?;
     }
-    let mut k: u16 = 0;
-    while k < FAR_LINES {
-        far_line(&rt, &mut seed, k);
-        k += 1;
+    for line in 0..FAR_LINES {
+        far_line(rt, &mut seed, line)?;
     }
+    Ok(())
+}
+
+fn main(rt: HostRuntime) -> ExitCode {
+    seeds::status(all(&rt))
 }

@@ -2,15 +2,16 @@
 // lengths.
 #![tactic(auto)]
 
-ghost use Rattle.std.specs.Prelude.{◌≡◌, ◌+◌, ◌≤◌, length};
-ghost use Rattle.memory.specs.Memory.{Installed};
-ghost use Rattle.image_blocks.specs.Image as Image;
-
-use calls::{Outcome, Tally};
+use calls::Outcome;
 use differing_runs::PLACES;
-use image_blocks::IMAGE_SIZE;
+use image_blocks::{EDITION, FIRST_EDITION, IMAGE_SIZE};
 use image_seeds::damage;
-use pairs::Pair;
+use machine::State;
+use pairs::{Damaged, Pair};
+use patterns::Pattern;
+use seeds::{Seed, Sum};
+use std::io;
+use std::process::ExitCode;
 
 mod calls;
 mod fields;
@@ -22,213 +23,150 @@ const LINES: u32 = 128;
 
 const PAIRS: u32 = 20;
 
-// How many lengths of parts are tried.
-const LENGTHS: u16 = 5;
+// Both editions.
+const EDITIONS: [u16; 2] = [FIRST_EDITION, EDITION];
 
-// Makes a pair and compares it.
-fn one(
-    bytes: &mut [u8],
-    first: &mut [u8],
-    second: &mut [u8],
-    places: &mut [u32; PLACES],
-    seed: &mut u32,
-    pair: Pair,
-) -> Outcome
-    requires installed { Installed bytes.old }
-    requires first_len { length first.old ≡ Image.image_size + 1 }
-    requires second_len { length second.old ≡ Image.image_size + 1 }
-{
-    pairs::make(bytes, first, second, seed, pair);
-    calls::compare(&first[0..IMAGE_SIZE], &second[0..IMAGE_SIZE], places)
+// The length of a buffer with one byte more than an image has.
+const LONG: usize = IMAGE_SIZE + 1;
+
+// A memory, two images, the places that a comparison lists, and the generator of all that is drawn.
+#[derive(Drop)]
+struct Bench {
+    bytes: [u8; memory::SIZE],
+    first: [u8; IMAGE_SIZE],
+    second: [u8; IMAGE_SIZE],
+    places: [u32; PLACES],
+    seed: Seed,
 }
 
-// A pair shown by itself.
-fn show(
-    rt: &impl Print,
-    bytes: &mut [u8],
-    first: &mut [u8],
-    second: &mut [u8],
-    places: &mut [u32; PLACES],
-    seed: &mut u32,
-    pair: Pair,
-)
-    requires installed { Installed bytes.old }
-    requires first_len { length first.old ≡ Image.image_size + 1 }
-    requires second_len { length second.old ≡ Image.image_size + 1 }
-{
-    let outcome = one(bytes, first, second, places, seed, pair);
-    calls::show(rt, outcome);
+// Writes an image of this edition.
+fn write(bytes: &[u8; memory::SIZE], image: &mut [u8; IMAGE_SIZE], state: State, edition: u16) {
+    image::write_image(state, bytes, image);
+    damage::put_edition(image, edition);
 }
 
-// All that are shown so.
-fn show_all(
-    rt: &impl Print,
-    bytes: &mut [u8],
-    first: &mut [u8],
-    second: &mut [u8],
-    places: &mut [u32; PLACES],
-    seed: &mut u32,
-)
-    requires installed { Installed bytes.old }
-    requires first_len { length first.old ≡ Image.image_size + 1 }
-    requires second_len { length second.old ≡ Image.image_size + 1 }
-{
-    let mut n: u16 = 0;
-    while n < pairs::SHOWN {
-        let pair = pairs::shown_pair(seed, n);
-        show(rt, bytes, first, second, places, seed, pair);
-        n += 1;
+// An image in a buffer that has one byte more.
+fn longer(image: &[u8; IMAGE_SIZE]) -> [u8; LONG] {
+    let mut buffer = [0; LONG];
+    buffer[..IMAGE_SIZE].copy_from_slice(image);
+    buffer
+}
+
+// Parts that are far too short, or have an image's length, one less or one more.
+fn parts(buffer: &[u8; LONG]) -> [&[u8]; 5] {
+    [
+        &buffer[..0],
+        &buffer[..1],
+        &buffer[..IMAGE_SIZE - 1],
+        &buffer[..IMAGE_SIZE],
+        buffer,
+    ]
+}
+
+impl Bench {
+    // Makes a pair's images, of any bytes and any state; between them memory and state are changed.
+    fn make(&mut self, pair: Pair) {
+        self.seed.fill(&mut self.bytes);
+        let base = fields::base(&mut self.seed, pair.no_rom);
+        write(&self.bytes, &mut self.first, base, pair.first.edition);
+        pair.pattern.apply(&mut self.bytes, &mut self.seed);
+        let changed = fields::changed_in(base, pair.mask);
+        write(&self.bytes, &mut self.second, changed, pair.second.edition);
+        pair.first.damage(&mut self.first, &mut self.seed, base);
+        pair.second
+            .damage(&mut self.second, &mut self.seed, changed);
+    }
+
+    // Makes a pair and compares it.
+    fn one(&mut self, pair: Pair) -> Outcome {
+        self.make(pair);
+        calls::compare(&self.first, &self.second, &mut self.places)
+    }
+
+    // A pair shown by itself.
+    fn show(&mut self, rt: &impl Print, pair: Pair) -> io::Result<()> {
+        self.one(pair).show(rt)
+    }
+
+    // All that are shown so: those with a chosen pattern, those that differ in one field, those that differ in the edition at most, and
+    // those with each kind of damage.
+    fn show_all(&mut self, rt: &impl Print) -> io::Result<()> {
+        for row in patterns::CHOSEN {
+            let pattern = Pattern::runs(row);
+            self.show(rt, Pair::whole(pattern, 0, EDITION, EDITION))?;
+        }
+        for k in fields::FIRST..fields::END {
+            for first in EDITIONS {
+                for second in EDITIONS {
+                    self.show(rt, Pair::whole(Pattern::NOTHING, 1 << k, first, second))?;
+                }
+            }
+        }
+        for first in EDITIONS {
+            for second in EDITIONS {
+                self.show(rt, Pair::of_editions(first, second))?;
+            }
+        }
+        for kind in 0..damage::KINDS {
+            for which in [Damaged::First, Damaged::Second, Damaged::Both] {
+                for edition in EDITIONS {
+                    let pair = Pair::damaged(&mut self.seed, kind, which, edition);
+                    self.show(rt, pair)?;
+                }
+            }
+        }
+        Ok(())
+    }
+
+    // Parts of all lengths, of a pair without damage, and of one whose first image is refused for its filler.
+    fn show_parts(&mut self, rt: &impl Print) -> io::Result<()> {
+        for kind in [damage::NONE, damage::FILLER] {
+            let pair = Pair::first_damaged(&mut self.seed, kind);
+            self.make(pair);
+            let firsts = longer(&self.first);
+            let seconds = longer(&self.second);
+            for first in parts(&firsts) {
+                for second in parts(&seconds) {
+                    calls::show_call(rt, first, second, &mut self.places)?;
+                }
+            }
+        }
+        Ok(())
+    }
+
+    // A line: some pairs, how many were accepted, and the sum of what came of all.
+    fn line(&mut self, rt: &impl Print) -> io::Result<()> {
+        let mut accepted = 0u64;
+        let mut sum = Sum::ZERO;
+        for _ in 0..PAIRS {
+            let pair = Pair::any(&mut self.seed);
+            let outcome = self.one(pair);
+            outcome.mix_into(&mut sum);
+            if outcome.answer.number == 0 {
+                accepted = accepted.wrapping_add(1);
+            }
+        }
+        println!(rt; "{accepted} {sum}")
     }
 }
 
-// Length `n` of a part: far too short, or an image's, one less or one more.
-fn length_of(n: u16) -> usize
-    ensures { result ≤ Image.image_size + 1 }
-{
-    match n {
-        0 => 0,
-        1 => 1,
-        2 => IMAGE_SIZE - 1,
-        3 => IMAGE_SIZE,
-        _ => IMAGE_SIZE + 1,
-    }
-}
-
-// Parts of all these lengths.
-fn every_length(rt: &impl Print, first: &[u8], second: &[u8], places: &mut [u32; PLACES])
-    requires first_len { length first.now ≡ Image.image_size + 1 }
-    requires second_len { length second.now ≡ Image.image_size + 1 }
-{
-    let mut n: u16 = 0;
-    while n < LENGTHS * LENGTHS {
-        let of_first = length_of(n / LENGTHS);
-        let of_second = length_of(n % LENGTHS);
-        calls::show_call(rt, &first[0..of_first], &second[0..of_second], places);
-        n += 1;
-    }
-}
-
-// The tally with any pair more.
-fn add_pair(
-    bytes: &mut [u8],
-    first: &mut [u8],
-    second: &mut [u8],
-    places: &mut [u32; PLACES],
-    seed: &mut u32,
-    tally: Tally,
-) -> Tally
-    requires installed { Installed bytes.old }
-    requires first_len { length first.old ≡ Image.image_size + 1 }
-    requires second_len { length second.old ≡ Image.image_size + 1 }
-{
-    let pair = pairs::any_pair(seed);
-    let outcome = one(bytes, first, second, places, seed, pair);
-    calls::tallied(tally, outcome)
-}
-
-// A line: some pairs.
-fn line(
-    rt: &impl Print,
-    bytes: &mut [u8],
-    first: &mut [u8],
-    second: &mut [u8],
-    places: &mut [u32; PLACES],
-    seed: &mut u32,
-)
-    requires installed { Installed bytes.old }
-    requires first_len { length first.old ≡ Image.image_size + 1 }
-    requires second_len { length second.old ≡ Image.image_size + 1 }
-{
-    let mut tally = Tally {
-        accepted: 0,
-        sum: 0,
+// All parts.
+fn all(rt: &impl Print) -> io::Result<()> {
+    let mut bench = Bench {
+        bytes: [0; memory::SIZE],
+        first: [0; IMAGE_SIZE],
+        second: [0; IMAGE_SIZE],
+        places: [u32::MAX; PLACES],
+        seed: Seed::new(256),
     };
-    let mut i: u32 = 0;
-    while i < PAIRS {
-        tally = add_pair(bytes, first, second, places, seed, tally);
-        i += 1;
+    bench.show_all(rt)?;
+    bench.show_parts(rt)?;
+    for _ in 0..LINES {
+        bench.line(rt)?;
     }
-    calls::show_tally(rt, tally);
+    Ok(())
 }
 
-// Many pairs.
-fn many(
-    rt: &impl Print,
-    bytes: &mut [u8],
-    first: &mut [u8],
-    second: &mut [u8],
-    places: &mut [u32; PLACES],
-    seed: &mut u32,
-)
-    requires installed { Installed bytes.old }
-    requires first_len { length first.old ≡ Image.image_size + 1 }
-    requires second_len { length second.old ≡ Image.image_size + 1 }
-{
-    let mut n: u32 = 0;
-    while n < LINES {
-        line(rt, bytes, first, second, places, seed);
-        n += 1;
-    }
-}
-
-// Parts of a pair whose first image has this kind of damage.
-fn show_parts(
-    rt: &impl Print,
-    bytes: &mut [u8],
-    first: &mut [u8],
-    second: &mut [u8],
-    places: &mut [u32; PLACES],
-    seed: &mut u32,
-    kind: u16,
-)
-    requires installed { Installed bytes.old }
-    requires first_len { length first.old ≡ Image.image_size + 1 }
-    requires second_len { length second.old ≡ Image.image_size + 1 }
-{
-    let pair = pairs::any_first_damaged(seed, kind);
-    pairs::make(bytes, first, second, seed, pair);
-    every_length(rt, first, second, places);
-}
-
-// Parts of a pair without damage, and of one whose first image is refused for its filler.
-fn show_rounds(
-    rt: &impl Print,
-    bytes: &mut [u8],
-    first: &mut [u8],
-    second: &mut [u8],
-    places: &mut [u32; PLACES],
-    seed: &mut u32,
-)
-    requires installed { Installed bytes.old }
-    requires first_len { length first.old ≡ Image.image_size + 1 }
-    requires second_len { length second.old ≡ Image.image_size + 1 }
-{
-    show_parts(rt, bytes, first, second, places, seed, damage::NONE);
-    show_parts(rt, bytes, first, second, places, seed, damage::FILLER);
-}
-
-// All, on images in buffers that have one byte too many.
-fn all(
-    rt: &impl Print,
-    bytes: &mut [u8],
-    first: &mut [u8],
-    second: &mut [u8],
-    places: &mut [u32; PLACES],
-)
-    requires installed { Installed bytes.old }
-    requires first_len { length first.old ≡ Image.image_size + 1 }
-    requires second_len { length second.old ≡ Image.image_size + 1 }
-{
-    let mut seed: u32 = 256;
-    show_all(rt, bytes, first, second, places, &mut seed);
-    show_rounds(rt, bytes, first, second, places, &mut seed);
-    many(rt, bytes, first, second, places, &mut seed);
-}
-
-fn main(rt: HostRuntime) {
-    let mut bytes = [0u8; memory::SIZE];
-    let mut first = [0u8; IMAGE_SIZE + 1];
-    let mut second = [0u8; IMAGE_SIZE + 1];
-    let mut places = [0xFFFFFFFFu32; PLACES];
-    all(&rt, &mut bytes, &mut first, &mut second, &mut places);
+fn main(rt: HostRuntime) -> ExitCode {
+    seeds::status(all(&rt))
 }

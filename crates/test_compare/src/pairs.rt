@@ -1,15 +1,8 @@
-// Pairs of images: what they are made from, and their making.
-ghost use Rattle.std.specs.Prelude.{◌≡◌, ◌+◌, ◌<◌, length};
-ghost use Rattle.memory.specs.Memory.{Installed};
-ghost use Rattle.image_blocks.specs.Image as Image;
-
+// What pairs of images are made from.
 use super::patterns::Pattern;
-use super::{fields, patterns};
-use image_blocks::IMAGE_SIZE;
 use image_seeds::damage;
 use image_seeds::damage::Case;
-use machine::State;
-use seeds::below;
+use seeds::Seed;
 
 // What makes two images differ: the bytes of the memory, the fields (weight 2^k for field k), and editions and damage of each; and whether
 // nothing is read-only in their base.
@@ -22,15 +15,13 @@ pub struct Pair {
     pub no_rom: bool,
 }
 
-// Pairs that are shown by themselves: those with a chosen pattern, then from here on those that differ in one field, then those that differ in
-// the edition at most, then those with each kind of damage, and all.
-const BY_FIELD: u16 = patterns::CHOSEN;
-
-const BY_EDITION: u16 = BY_FIELD + 4 * (fields::END - fields::FIRST);
-
-const BY_DAMAGE: u16 = BY_EDITION + 4;
-
-pub const SHOWN: u16 = BY_DAMAGE + 6 * damage::KINDS;
+// Which of two images are damaged.
+#[derive(Clone, Copy)]
+pub enum Damaged {
+    First,
+    Second,
+    Both,
+}
 
 // An image that is not damaged.
 fn whole(edition: u16) -> Case {
@@ -41,205 +32,100 @@ fn whole(edition: u16) -> Case {
     }
 }
 
-// Two images that are not damaged.
-fn whole_pair(pattern: Pattern, mask: u16, first: u16, second: u16) -> Pair {
-    let of_first = whole(first);
-    let of_second = whole(second);
-    Pair {
-        pattern,
-        mask,
-        first: of_first,
-        second: of_second,
-        no_rom: false,
-    }
-}
-
-// Any two, of which the first has this kind of damage and the second none.
-pub fn any_first_damaged(seed: &mut u32, kind: u16) -> Pair {
-    let pattern = patterns::any(seed);
-    let mask = seeds::word(seed);
-    let edition = image_seeds::any_edition(seed);
-    let first = Case {
-        edition,
-        kind,
-        place: 0,
-    };
-    let second = whole(image_seeds::any_edition(seed));
-    Pair {
-        pattern,
-        mask,
-        first,
-        second,
-        no_rom: false,
-    }
-}
-
-// Pair `n` of those that differ in one field, each in both editions.
-fn field_pair(n: u16) -> Pair
-    requires { n < 52 }
-{
-    let k = fields::FIRST + n / 4;
-    let mask = 1u16 << (k as u32);
-    whole_pair(patterns::nothing(), mask, 1 + n / 2 % 2, 1 + n % 2)
-}
-
-// Pair `n` of those that differ in the edition at most.
-fn edition_pair(n: u16) -> Pair {
-    let mut pair = whole_pair(patterns::nothing(), 0, 1 + n / 2 % 2, 1 + n % 2);
-    pair.no_rom = true;
-    pair
-}
-
-// Two images, of which the first (0), the second (1) or both (2) are of this edition and damaged.
-fn damaged_pair(seed: &mut u32, kind: u16, which: u16, edition: u16) -> Pair {
-    let pattern = patterns::any(seed);
-    let mask = seeds::word(seed);
-    let other = image_seeds::any_edition(seed);
-    let mut first = whole(other);
-    let mut second = whole(other);
-    let place = below(seed, damage::PLACES);
-    if which != 1 {
-        first = Case {
-            edition,
-            kind,
-            place,
-        };
-    }
-    let place = below(seed, damage::PLACES);
-    if which != 0 {
-        second = Case {
-            edition,
-            kind,
-            place,
-        };
-    }
-    Pair {
-        pattern,
-        mask,
-        first,
-        second,
-        no_rom: false,
-    }
-}
-
-// Pair `n` of those that are shown by themselves.
-pub fn shown_pair(seed: &mut u32, n: u16) -> Pair {
-    if n < BY_FIELD {
-        return whole_pair(patterns::chosen(n), 0, 2, 2);
-    }
-    if n < BY_EDITION {
-        return field_pair(n - BY_FIELD);
-    }
-    if n < BY_DAMAGE {
-        return edition_pair(n - BY_EDITION);
-    }
-    let rest = n - BY_DAMAGE;
-    damaged_pair(seed, rest / 6, rest / 2 % 3, 1 + rest % 2)
-}
-
 // A mask of any fields, or of none.
-fn any_mask(seed: &mut u32) -> u16 {
-    let mask = seeds::word(seed);
-    if seeds::once_in(seed, 2) {
-        return 0;
+fn any_mask(seed: &mut Seed) -> u16 {
+    let mask = seed.word();
+    if seed.once_in(2) { 0 } else { mask }
+}
+
+impl Pair {
+    // Two images of these editions that are not damaged.
+    pub fn whole(pattern: Pattern, mask: u16, first: u16, second: u16) -> Self {
+        Pair {
+            pattern,
+            mask,
+            first: whole(first),
+            second: whole(second),
+            no_rom: false,
+        }
     }
-    mask
-}
 
-// Any pair; about one image in four is damaged.
-pub fn any_pair(seed: &mut u32) -> Pair {
-    let pattern = patterns::any(seed);
-    let mask = any_mask(seed);
-    let edition1 = image_seeds::any_edition(seed);
-    let edition2 = image_seeds::any_edition(seed);
-    let kind1 = below(seed, 4 * damage::KINDS);
-    let kind2 = below(seed, 4 * damage::KINDS);
-    let place1 = below(seed, damage::PLACES);
-    let place2 = below(seed, damage::PLACES);
-    let first = Case {
-        edition: edition1,
-        kind: kind1,
-        place: place1,
-    };
-    let second = Case {
-        edition: edition2,
-        kind: kind2,
-        place: place2,
-    };
-    Pair {
-        pattern,
-        mask,
-        first,
-        second,
-        no_rom: false,
+    // Two that differ in the edition at most.
+    pub fn of_editions(first: u16, second: u16) -> Self {
+        let mut pair = Pair::whole(Pattern::NOTHING, 0, first, second);
+        pair.no_rom = true;
+        pair
     }
-}
 
-// Writes an image of this edition into a buffer.
-fn write(bytes: &[u8], buffer: &mut [u8], state: State, edition: u16)
-    requires installed { Installed bytes.now }
-    requires buffer_len { length buffer.old ≡ Image.image_size + 1 }
-{
-    let image = &mut buffer[0..IMAGE_SIZE];
-    image::write_image(state, bytes, image);
-    damage::put_edition(image, edition);
-}
+    // Any two, of which the first has this kind of damage and the second none.
+    pub fn first_damaged(seed: &mut Seed, kind: u16) -> Self {
+        let pattern = Pattern::any(seed);
+        let mask = seed.word();
+        let edition = image_seeds::any_edition(seed);
+        let first = Case {
+            edition,
+            kind,
+            place: 0,
+        };
+        Pair {
+            pattern,
+            mask,
+            first,
+            second: whole(image_seeds::any_edition(seed)),
+            no_rom: false,
+        }
+    }
 
-// Writes the first image; then changes memory and state, and writes the second. The state as changed.
-fn write_both(
-    bytes: &mut [u8],
-    first: &mut [u8],
-    second: &mut [u8],
-    seed: &mut u32,
-    base: State,
-    pair: Pair,
-) -> State
-    requires installed { Installed bytes.old }
-    requires first_len { length first.old ≡ Image.image_size + 1 }
-    requires second_len { length second.old ≡ Image.image_size + 1 }
-{
-    let pattern = pair.pattern;
-    write(bytes, first, base, pair.first.edition);
-    patterns::apply(bytes, seed, pattern);
-    let changed = fields::changed_in(base, pair.mask);
-    write(bytes, second, changed, pair.second.edition);
-    changed
-}
+    // Two images, of which some are of this edition and damaged.
+    pub fn damaged(seed: &mut Seed, kind: u16, which: Damaged, edition: u16) -> Self {
+        let pattern = Pattern::any(seed);
+        let mask = seed.word();
+        let whole = whole(image_seeds::any_edition(seed));
+        let first = Case {
+            edition,
+            kind,
+            place: seed.below(damage::PLACES),
+        };
+        let second = Case {
+            edition,
+            kind,
+            place: seed.below(damage::PLACES),
+        };
+        let (first, second) = match which {
+            Damaged::First => (first, whole),
+            Damaged::Second => (whole, second),
+            Damaged::Both => (first, second),
+        };
+        Pair {
+            pattern,
+            mask,
+            first,
+            second,
+            no_rom: false,
+        }
+    }
 
-// Damages the image in a buffer.
-fn damage_image(buffer: &mut [u8], seed: &mut u32, state: State, case: Case)
-    requires { length buffer.old ≡ Image.image_size + 1 }
-{
-    damage::damage(&mut buffer[0..IMAGE_SIZE], seed, state, case);
-}
-
-// Makes a pair's images of this memory and state, and damages them.
-fn make_of(
-    bytes: &mut [u8],
-    first: &mut [u8],
-    second: &mut [u8],
-    seed: &mut u32,
-    base: State,
-    pair: Pair,
-)
-    requires installed { Installed bytes.old }
-    requires first_len { length first.old ≡ Image.image_size + 1 }
-    requires second_len { length second.old ≡ Image.image_size + 1 }
-{
-    let of_first = pair.first;
-    let of_second = pair.second;
-    let changed = write_both(bytes, first, second, seed, base, pair);
-    damage_image(first, seed, base, of_first);
-    damage_image(second, seed, changed, of_second);
-}
-
-// Makes a pair's images, of any bytes and any state, in buffers that have one byte too many.
-pub fn make(bytes: &mut [u8], first: &mut [u8], second: &mut [u8], seed: &mut u32, pair: Pair)
-    requires installed { Installed bytes.old }
-    requires first_len { length first.old ≡ Image.image_size + 1 }
-    requires second_len { length second.old ≡ Image.image_size + 1 }
-{
-    seeds::fill(bytes, seed);
-    let base = fields::base(seed, pair.no_rom);
-    make_of(bytes, first, second, seed, base, pair);
+    // Any pair; about one image in four is damaged.
+    pub fn any(seed: &mut Seed) -> Self {
+        let pattern = Pattern::any(seed);
+        let mask = any_mask(seed);
+        let editions = [
+            image_seeds::any_edition(seed),
+            image_seeds::any_edition(seed),
+        ];
+        let kinds = [seed.below(4 * damage::KINDS), seed.below(4 * damage::KINDS)];
+        let places = [seed.below(damage::PLACES), seed.below(damage::PLACES)];
+        let case = |i: usize| Case {
+            edition: editions[i],
+            kind: kinds[i],
+            place: places[i],
+        };
+        Pair {
+            pattern,
+            mask,
+            first: case(0),
+            second: case(1),
+            no_rom: false,
+        }
+    }
 }

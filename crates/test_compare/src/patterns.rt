@@ -1,23 +1,21 @@
 // Patterns of changes, and memories changed by them.
-ghost use Rattle.std.specs.Prelude.{◌<◌, length};
-ghost use Rattle.memory.specs.Memory.{Installed};
+use seeds::Seed;
 
-use seeds::below;
-
-// `count` runs of `length` bytes, one in every `period` bytes from `start` on. Where `sparse` is not 0: one byte in so many instead.
 #[derive(Clone, Copy)]
-pub struct Pattern {
-    pub start: u16,
-    pub length: u16,
-    pub period: u16,
-    pub count: u16,
-    pub sparse: u16,
+pub enum Pattern {
+    // `count` runs of `length` bytes, one in every `period` bytes from `start` on.
+    Runs {
+        start: u16,
+        length: u16,
+        period: u16,
+        count: u16,
+    },
+    // One byte in so many.
+    Sparse(u16),
 }
 
-// How many patterns are chosen, and the start, length, period and count of each.
-pub const CHOSEN: u16 = 28;
-
-const TABLE: [[u16; 4]; CHOSEN as usize] = [
+// The start, length, period and count of each pattern that is chosen.
+pub const CHOSEN: [[u16; 4]; 28] = [
     [0, 0, 1, 0],
     [0, 1, 1, 1],
     [16383, 1, 1, 1],
@@ -48,105 +46,75 @@ const TABLE: [[u16; 4]; CHOSEN as usize] = [
     [1, 16383, 16383, 1],
 ];
 
-// Runs at even distances.
-fn regular(start: u16, length: u16, period: u16, count: u16) -> Pattern {
-    Pattern {
-        start,
-        length,
-        period,
-        count,
-        sparse: 0,
+impl Pattern {
+    // No change.
+    pub const NOTHING: Pattern = Pattern::Runs {
+        start: 0,
+        length: 0,
+        period: 1,
+        count: 0,
+    };
+
+    // Runs with these numbers.
+    pub fn runs([start, length, period, count]: [u16; 4]) -> Self {
+        Pattern::Runs {
+            start,
+            length,
+            period,
+            count,
+        }
     }
-}
 
-// No change.
-pub fn nothing() -> Pattern {
-    regular(0, 0, 1, 0)
-}
-
-// Chosen pattern `n`.
-pub fn chosen(n: u16) -> Pattern
-    requires { n < 28 }
-{
-    let at = n as usize;
-    regular(TABLE[at][0], TABLE[at][1], TABLE[at][2], TABLE[at][3])
-}
-
-// Runs of any length, anywhere.
-fn any_runs(seed: &mut u32) -> Pattern {
-    let start = below(seed, 16384);
-    let length = 1 + below(seed, 600);
-    let period = length + 1 + below(seed, 600);
-    let count = below(seed, 300);
-    regular(start, length, period, count)
-}
-
-// Single bytes, anywhere.
-fn any_sparse(seed: &mut u32) -> Pattern {
-    let mut pattern = nothing();
-    pattern.sparse = 1 + below(seed, 64);
-    pattern
-}
-
-// About as many runs as are listed at most.
-fn any_short_runs(seed: &mut u32) -> Pattern {
-    let start = below(seed, 600);
-    let length = 1 + below(seed, 3);
-    let period = length + 1 + below(seed, 3);
-    let count = 250 + below(seed, 16);
-    regular(start, length, period, count)
-}
-
-// Any pattern.
-pub fn any(seed: &mut u32) -> Pattern {
-    match below(seed, 4) {
-        0 => nothing(),
-        1 => any_runs(seed),
-        2 => any_sparse(seed),
-        _ => any_short_runs(seed),
+    // Runs of any length, anywhere.
+    fn any_runs(seed: &mut Seed) -> Self {
+        let start = seed.below(16384);
+        let length = 1 + seed.below(600);
+        let period = length + 1 + seed.below(600);
+        Pattern::runs([start, length, period, seed.below(300)])
     }
-}
 
-// Whether byte `i` lies in a run; with no period there is none.
-fn in_run(pattern: Pattern, i: u16) -> bool {
-    let period = pattern.period;
-    if period == 0 {
-        return false;
+    // About as many runs as are listed at most. (One function for both would need a clause for each of its numbers.)
+    fn any_short_runs(seed: &mut Seed) -> Self {
+        let start = seed.below(600);
+        let length = 1 + seed.below(3);
+        let period = length + 1 + seed.below(3);
+        Pattern::runs([start, length, period, 250 + seed.below(16)])
     }
-    if i < pattern.start {
-        return false;
-    }
-    let past = i - pattern.start;
-    past / period < pattern.count && past % period < pattern.length
-}
 
-// Whether byte `i` is changed.
-fn is_changed(seed: &mut u32, pattern: Pattern, i: u16) -> bool {
-    let sparse = pattern.sparse;
-    if sparse == 0 {
-        return in_run(pattern, i);
+    // Any pattern.
+    pub fn any(seed: &mut Seed) -> Self {
+        match seed.below(4) {
+            0 => Pattern::NOTHING,
+            1 => Pattern::any_runs(seed),
+            2 => Pattern::Sparse(1 + seed.below(64)),
+            _ => Pattern::any_short_runs(seed),
+        }
     }
-    seeds::once_in(seed, sparse)
-}
 
-// Changes byte `i` if the pattern says so.
-fn apply_at(bytes: &mut [u8], seed: &mut u32, pattern: Pattern, i: u16)
-    requires { i < length bytes.old }
-{
-    if is_changed(seed, pattern, i) {
-        let more = (1 + below(seed, 255)) as u8;
-        let at = i as usize;
-        bytes[at] = std::num::wrapping_add_u8(bytes[at], more);
+    // Whether byte `i` is changed. With no period there are no runs.
+    fn changes(self, seed: &mut Seed, i: u16) -> bool {
+        match self {
+            Pattern::Runs {
+                start,
+                length,
+                period,
+                count,
+            } => {
+                period != 0
+                    && start <= i
+                    && (i - start) / period < count
+                    && (i - start) % period < length
+            }
+            Pattern::Sparse(n) => n != 0 && seed.once_in(n),
+        }
     }
-}
 
-// Changes a memory by a pattern.
-pub fn apply(bytes: &mut [u8], seed: &mut u32, pattern: Pattern)
-    requires { Installed bytes.old }
-{
-    let mut i: u16 = 0;
-    while i < memory::SIZE as u16 {
-        apply_at(bytes, seed, pattern, i);
-        i += 1;
+    // Changes a memory by the pattern.
+    pub fn apply(self, bytes: &mut [u8; memory::SIZE], seed: &mut Seed) {
+        for (i, byte) in bytes.iter_mut().enumerate() {
+            if self.changes(seed, i as u16) {
+                *byte = byte.wrapping_add((1 + seed.below(255)) as u8);
+            }
+        }
     }
 }

@@ -1,15 +1,14 @@
 // Single steps with a read-only part, of programs of entries and stores, beside a run without it on a copy of the memory: how many cases end
 // otherwise, so that the part mattered; sums of the answer of every step and of the states.
-ghost use Rattle.std.specs.Prelude.{◌≡◌, ◌≤◌, length};
-ghost use Rattle.memory.specs.Memory.{Installed};
-
-use super::{mix_run, programs, renew_records, run_refused};
+use crate::bench::{Bench, mix_run};
+use crate::programs::Theme;
 use machine::State;
 use replay_core::run;
-use seeds::{below, lines, roms, spoiled, states};
+use seeds::{Seed, Sum, spoiled};
+use std::io;
 
 // Lines of the output, memories of a line, cases on a memory, steps of a case.
-const LINES: u32 = 64;
+pub const LINES: u32 = 64;
 
 const MEMORIES: u32 = 8;
 
@@ -18,219 +17,101 @@ const CASES: u32 = 16;
 const STEPS: usize = 24;
 
 // The sum so far, and how many cases ended otherwise than without the read-only part.
-#[derive(Clone, Copy)]
+#[derive(Drop)]
 struct Tally {
-    sum: u32,
+    sum: Sum,
     other: u64,
 }
 
-// The sum so far, and the state that some steps led to.
-#[derive(Clone, Copy)]
-struct Reached {
-    sum: u32,
-    state: State,
-}
-
 // A state without a read-only part; half of them are in clock mode.
-fn any_mode(seed: &mut u32) -> State {
-    let mut state = states::state(seed, 0);
-    if seeds::once_in(seed, 2) {
-        let mut psi = state.psi;
-        psi.reading = below(seed, states::CLOCK_NUMBERS);
-        psi.mask = psi.mask / 2 * 2 + 1;
-        state.psi = psi;
+fn any_mode(seed: &mut Seed) -> State {
+    let mut state = seed.state(0);
+    if seed.once_in(2) {
+        seed.set_clock_mode(&mut state.psi);
     }
     state
 }
 
 // A state with a read-only part.
-fn start(bytes: &[u8], seed: &mut u32) -> State
-    requires { Installed bytes.now }
-{
-    let mut state = any_mode(seed);
-    let rom = roms::suited(bytes, seed, state);
-    state.rom = rom;
+fn start(bench: &mut Bench) -> State {
+    let mut state = any_mode(&mut bench.seed);
+    state.rom = bench.seed.suited_rom(&bench.bytes, state);
     state
 }
 
-// The sum with a refused call more, now and then.
-fn refused(bytes: &mut [u8], seed: &mut u32, state: State, records: &[u32], sum: u32) -> u32
-    requires installed { Installed bytes.old }
-    requires records_len { length records.now ≡ 1024 }
-{
-    if !seeds::once_in(seed, 4) {
-        return sum;
-    }
-    mix_run(sum, run_refused(bytes, seed, state, records, spoiled::WAYS))
-}
-
-// A case's steps in one run without a read-only part.
-fn without(bytes: &mut [u8], state: State, records: &[u32], from: usize, sum: u32) -> Reached
-    requires records_len { length records.now ≡ 1024 }
-    requires from_bound { from ≤ 255 }
-{
-    let mut free = state;
-    free.rom = State::NO_ROM;
-    let answer = run::run(bytes, free, &records[from..], STEPS, 1);
-    let after = answer.state;
-    Reached {
-        sum: mix_run(sum, answer),
-        state: after,
-    }
-}
-
-// A case's steps, each made by itself.
-fn steps(bytes: &mut [u8], state: State, records: &[u32], from: usize, sum: u32) -> Reached
-    requires records_len { length records.now ≡ 1024 }
-    requires from_bound { from ≤ 255 }
-{
-    let mut s = state;
-    let mut mixed = sum;
-    let mut at = from;
-    let end = from + STEPS;
-    while at < end {
-        let answer = run::run(bytes, s, &records[at..], 1, 1);
-        mixed = mix_run(mixed, answer);
-        let after = answer.state;
-        s = after;
-        at += 1;
-    }
-    Reached {
-        sum: mixed,
-        state: s,
-    }
-}
-
-// Whether two memories differ.
-fn differ(bytes: &[u8], others: &[u8]) -> bool
-    requires installed { Installed bytes.now }
-    requires installed_2 { Installed others.now }
-{
-    let mut i = 0;
-    while i < memory::SIZE {
-        if bytes[i] != others[i] {
-            return true;
-        }
-        i += 1;
-    }
-    false
-}
-
-// Whether two machines differ in memory, WP, PC or ST.
-fn apart(bytes: &[u8], others: &[u8], one: State, other: State) -> bool
-    requires installed { Installed bytes.now }
-    requires installed_2 { Installed others.now }
-{
-    if one.wp != other.wp || one.pc != other.pc || one.st != other.st {
-        return true;
-    }
-    differ(bytes, others)
-}
-
-// The tally with a case's steps more: without the part on the copy, then with it.
-fn compared(
-    bytes: &mut [u8],
-    copy: &mut [u8],
+// The state after a step for each record, in one run without a read-only part.
+fn run_without(
+    bytes: &mut [u8; memory::SIZE],
     state: State,
     records: &[u32],
-    from: usize,
-    tally: Tally,
-) -> Tally
-    requires installed { Installed bytes.old }
-    requires installed_2 { Installed copy.old }
-    requires records_len { length records.now ≡ 1024 }
-    requires from_bound { from ≤ 255 }
-{
+    sum: &mut Sum,
+) -> State {
+    let free = State {
+        rom: State::NO_ROM,
+        ..state
+    };
+    let answer = run::run(bytes, free, records, records.len(), 1);
+    mix_run(sum, &answer);
+    answer.state
+}
+
+// The state after a step for each record, each made by itself.
+fn single_steps(
+    bytes: &mut [u8; memory::SIZE],
+    mut state: State,
+    records: &[u32],
+    sum: &mut Sum,
+) -> State {
+    for record in records {
+        let answer = run::run(bytes, state, &[*record], 1, 1);
+        mix_run(sum, &answer);
+        state = answer.state;
+    }
+    state
+}
+
+// A case: now and then a refused call, then its steps without the part on the copy, and with it. It mattered where they end otherwise in
+// memory, WP, PC or ST.
+fn case(bench: &mut Bench, tally: &mut Tally) {
+    let state = start(bench);
+    if bench.seed.once_in(4) {
+        let answer = bench.run_refused(state, spoiled::WAYS);
+        mix_run(&mut tally.sum, &answer);
+    }
+    let Bench {
+        bytes,
+        copy,
+        records,
+        seed,
+    } = bench;
+    let from = seed.below(256) as usize;
+    let records = &records[from..from + STEPS];
     copy.copy_from_slice(bytes);
-    let free = without(copy, state, records, from, tally.sum);
-    let with = steps(bytes, state, records, from, free.sum);
-    let one = free.state;
-    let other = with.state;
-    let mattered = apart(bytes, copy, one, other);
-    Tally {
-        sum: with.sum,
-        other: std::num::wrapping_add_u64(tally.other, mattered as u64),
+    let free = run_without(copy, state, records, &mut tally.sum);
+    let with = single_steps(bytes, state, records, &mut tally.sum);
+    if (with.wp, with.pc, with.st) != (free.wp, free.pc, free.st) || bytes != copy {
+        tally.other = tally.other.wrapping_add(1);
     }
-}
-
-// The tally with one case more.
-fn case(bytes: &mut [u8], copy: &mut [u8], seed: &mut u32, records: &[u32], tally: Tally) -> Tally
-    requires installed { Installed bytes.old }
-    requires installed_2 { Installed copy.old }
-    requires records_len { length records.now ≡ 1024 }
-{
-    let mut next = tally;
-    let state = start(bytes, seed);
-    next.sum = refused(bytes, seed, state, records, tally.sum);
-    let from = below(seed, 256) as usize;
-    compared(bytes, copy, state, records, from, next)
-}
-
-// Cases on one memory.
-fn cases(bytes: &mut [u8], copy: &mut [u8], seed: &mut u32, records: &[u32], tally: Tally) -> Tally
-    requires installed { Installed bytes.old }
-    requires installed_2 { Installed copy.old }
-    requires records_len { length records.now ≡ 1024 }
-{
-    let mut next = tally;
-    let mut i: u32 = 0;
-    while i < CASES {
-        next = case(bytes, copy, seed, records, next);
-        i += 1;
-    }
-    next
 }
 
 // One memory: its program, its records, its cases, and what they leave.
-fn one(
-    bytes: &mut [u8],
-    copy: &mut [u8],
-    seed: &mut u32,
-    records: &mut [u32],
-    tally: Tally,
-) -> Tally
-    requires installed { Installed bytes.old }
-    requires installed_2 { Installed copy.old }
-    requires records_len { length records.old ≡ 1024 }
-{
-    programs::fill(bytes, seed, programs::STORES);
-    renew_records(records, seed);
-    let mut last = cases(bytes, copy, seed, records, tally);
-    last.sum = seeds::mix_bytes(last.sum, bytes);
-    last
+fn one(bench: &mut Bench, tally: &mut Tally) {
+    bench.fill_program(Theme::Stores);
+    bench.renew_records();
+    for _ in 0..CASES {
+        case(bench, tally);
+    }
+    tally.sum.mix_bytes(&bench.bytes);
 }
 
 // A line: some memories, the count, and the sum.
-fn line(rt: &impl Print, bytes: &mut [u8], copy: &mut [u8], seed: &mut u32, records: &mut [u32])
-    requires installed { Installed bytes.old }
-    requires installed_2 { Installed copy.old }
-    requires records_len { length records.old ≡ 1024 }
-{
-    let mut tally = Tally { sum: 0, other: 0 };
-    let mut i: u32 = 0;
-    while i < MEMORIES {
-        tally = one(bytes, copy, seed, records, tally);
-        i += 1;
+pub fn line(rt: &impl Print, bench: &mut Bench) -> io::Result<()> {
+    let mut tally = Tally {
+        sum: Sum::ZERO,
+        other: 0,
+    };
+    for _ in 0..MEMORIES {
+        one(bench, &mut tally);
     }
-    lines::number(rt, tally.other);
-    lines::last(rt, tally.sum);
-}
-
-// All lines.
-pub fn section(
-    rt: &impl Print,
-    bytes: &mut [u8],
-    copy: &mut [u8],
-    seed: &mut u32,
-    records: &mut [u32],
-)
-    requires installed { Installed bytes.old }
-    requires installed_2 { Installed copy.old }
-    requires records_len { length records.old ≡ 1024 }
-{
-    let mut n: u32 = 0;
-    while n < LINES {
-        line(rt, bytes, copy, seed, records);
-        n += 1;
-    }
+    println!(rt; "{} {}", tally.other, tally.sum)
 }

@@ -2,202 +2,182 @@
 // of what is told of every word and of what came of it.
 #![tactic(auto)]
 
-ghost use Rattle.std.specs.Prelude.{◌<◌, ◌≤◌};
-ghost use Rattle.memory.specs.Memory.{Installed};
+ghost use Rattle.std.specs.Prelude.{◌≤◌};
 
-use machine::State;
+use machine::{State, bus};
 use memory::Width;
-use seeds::{lines, records, roms, states};
+use seeds::{Seed, Sum};
+use std::io;
+use std::process::ExitCode;
 
-// Words that share a line of the output, lines of a pass over all words, and lines in all.
+// Words that share a line of the output, and lines of a pass over all words.
 const WORDS: u16 = 2048;
 
-const PASS: u16 = 32;
+const LINES: u16 = 32;
 
-const LINES: u16 = 224;
+// How a pass executes its words: through X or not, and with a read-only part or not.
+#[derive(Clone, Copy)]
+struct Pass {
+    through: bool,
+    read_only: bool,
+}
 
-// The passes through X, and the first with a read-only part.
-const THROUGH: u16 = 4;
+const PLAIN: Pass = Pass {
+    through: false,
+    read_only: false,
+};
 
-const THROUGH_AGAIN: u16 = 6;
-
-const READ_ONLY: u16 = 5;
+const PASSES: [Pass; 7] = [
+    PLAIN,
+    PLAIN,
+    PLAIN,
+    PLAIN,
+    Pass {
+        through: true,
+        read_only: false,
+    },
+    Pass {
+        through: false,
+        read_only: true,
+    },
+    Pass {
+        through: true,
+        read_only: true,
+    },
+];
 
 // The sum so far, and how many unassigned words there were.
-#[derive(Clone, Copy)]
+#[derive(Drop)]
 struct Tally {
-    sum: u32,
+    sum: Sum,
     unassigned: u64,
 }
 
-// Puts a word into a register.
-fn put_register(bytes: &mut [u8], wp: u16, n: u16, value: u16)
-    requires { Installed bytes.old }
-{
-    let twice = std::num::wrapping_add_u16(n, n);
-    memory::store(
-        bytes,
-        Width::Word,
-        std::num::wrapping_add_u16(wp, twice),
-        value,
-    );
+// The memory, and the generator of what is put into it.
+#[derive(Drop)]
+struct Bench {
+    bytes: [u8; memory::SIZE],
+    seed: Seed,
 }
 
 // R12: around the PSI's bits, before the wrap of the bit number, or any.
-fn base(seed: &mut u32) -> u16 {
-    match seeds::below(seed, 4) {
-        0 => seeds::word(seed),
-        1 => 0x0FC0 + seeds::below(seed, 64),
-        _ => seeds::below(seed, 72),
+fn base(seed: &mut Seed) -> u16 {
+    match seed.below(4) {
+        0 => seed.word(),
+        1 => 0x0FC0 + seed.below(64),
+        _ => seed.below(72),
     }
 }
 
-// The word of a register.
-fn content(seed: &mut u32, wp: u16, n: u16) -> u16 {
-    if n == 12 {
-        base(seed)
-    } else {
-        states::value(seed, wp)
+impl Bench {
+    // Puts a word at an address.
+    fn put(&mut self, address: u16, value: u16) {
+        memory::store(&mut self.bytes, Width::Word, address, value);
+    }
+
+    // Puts a word into a register.
+    fn put_register(&mut self, wp: u16, n: u16, value: u16) {
+        self.put(bus::register_at(wp, n), value);
+    }
+
+    // Fills the workspace.
+    fn fill_registers(&mut self, wp: u16) {
+        for n in 0..16 {
+            let value = if n == 12 {
+                base(&mut self.seed)
+            } else {
+                self.seed.value(wp)
+            };
+            self.put_register(wp, n, value);
+        }
+    }
+
+    // Makes a word be reached through one to nine X, each in a register: the first of them.
+    fn chained(&mut self, wp: u16, word: u16) -> u16 {
+        let first = self.seed.below(16);
+        let last = first + self.seed.below(9);
+        for n in first..last {
+            self.put_register(wp, n % 16, 0x0480 + (n + 1) % 16);
+        }
+        self.put_register(wp, last % 16, word);
+        0x0480 + first
+    }
+
+    // Fills the workspace and what may be further words, and gives the word to be executed: `word` itself, or X that leads to it.
+    fn prepared(&mut self, state: State, word: u16, pass: Pass) -> u16 {
+        self.fill_registers(state.wp);
+        let second = self.seed.value(state.wp);
+        self.put(state.pc, second);
+        let third = self.seed.value(state.pc);
+        self.put(state.pc.wrapping_add(2), third);
+        if pass.through {
+            self.chained(state.wp, word)
+        } else {
+            word
+        }
+    }
+
+    // Adds the registers to the sum.
+    fn mix_registers(&self, sum: &mut Sum, wp: u16) {
+        for n in 0..16 {
+            let value = memory::load(&self.bytes, Width::Word, bus::register_at(wp, n));
+            sum.mix(value);
+        }
+    }
+
+    // Executes a word from a state.
+    fn execute(&mut self, state: State, word: u16, tally: &mut Tally) {
+        let record = psi::split(self.seed.record(4));
+        let executed = cpu::perform(&mut self.bytes, state, record.levels, word, cpu::ALLOWANCE);
+        let answer = step_answers::told_word(state.pc, executed.deed);
+        tally.sum.mix_answer(answer);
+        tally.sum.mix_state(executed.state);
+        self.mix_registers(&mut tally.sum, executed.state.wp);
+        let missed = step_answers::missed(answer) as u64;
+        tally.unassigned = tally.unassigned.wrapping_add(missed);
+    }
+
+    // A word and a new state, as the pass has them. All words are put in place before any part of the memory is read-only.
+    fn one(&mut self, word: u16, pass: Pass, tally: &mut Tally) {
+        let mut state = self.seed.state(0);
+        let first = self.prepared(state, word, pass);
+        if pass.read_only {
+            state.rom = self.seed.suited_rom(&self.bytes, state);
+        }
+        self.execute(state, first, tally);
+    }
+
+    // A line: new memory, its words, and the sums. (No word is above 65535.)
+    fn line(&mut self, rt: &impl Print, first: u16, pass: Pass) -> io::Result<()>
+        requires { first ≤ 63488 }
+    {
+        self.seed.fill(&mut self.bytes);
+        let mut tally = Tally {
+            sum: Sum::ZERO,
+            unassigned: 0,
+        };
+        for i in 0..WORDS {
+            self.one(first + i, pass, &mut tally);
+        }
+        let memory = Sum::of_bytes(&self.bytes);
+        println!(rt; "{first} {} {} {memory}", tally.unassigned, tally.sum)
     }
 }
 
-// Fills the workspace.
-fn registers(bytes: &mut [u8], seed: &mut u32, wp: u16)
-    requires { Installed bytes.old }
-{
-    let mut n: u16 = 0;
-    while n < 16 {
-        put_register(bytes, wp, n, content(seed, wp, n));
-        n += 1;
-    }
-}
-
-// Makes a word be reached through one to nine X, each in a register: the first of them.
-fn chained(bytes: &mut [u8], seed: &mut u32, wp: u16, word: u16) -> u16
-    requires { Installed bytes.old }
-{
-    let first = seeds::below(seed, 16);
-    let further = seeds::below(seed, 9);
-    let mut n = first;
-    while n < first + further {
-        put_register(bytes, wp, n % 16, 0x0480 + (n + 1) % 16);
-        n += 1;
-    }
-    put_register(bytes, wp, n % 16, word);
-    0x0480 + first
-}
-
-// The sum with the registers more.
-fn mix_registers(sum: u32, bytes: &[u8], wp: u16) -> u32
-    requires { Installed bytes.now }
-{
-    let mut mixed = sum;
-    let mut n: u16 = 0;
-    while n < 16 {
-        let address = std::num::wrapping_add_u16(wp, 2 * n);
-        mixed = seeds::mix(mixed, memory::load(bytes, Width::Word, address) as u32);
-        n += 1;
-    }
-    mixed
-}
-
-// Fills the workspace and what may be further words, and gives the word to be executed: `word` itself, or X that leads to it.
-fn prepared(bytes: &mut [u8], seed: &mut u32, state: State, word: u16, pass: u16) -> u16
-    requires { Installed bytes.old }
-{
-    let wp = state.wp;
-    let pc = state.pc;
-    registers(bytes, seed, wp);
-    memory::store(bytes, Width::Word, pc, states::value(seed, wp));
-    memory::store(
-        bytes,
-        Width::Word,
-        std::num::wrapping_add_u16(pc, 2),
-        states::value(seed, pc),
-    );
-    if pass == THROUGH || pass == THROUGH_AGAIN {
-        return chained(bytes, seed, wp, word);
-    }
-    word
-}
-
-// The read-only address of a pass: none, or one that suits the state.
-fn first_read_only(bytes: &[u8], seed: &mut u32, state: State, pass: u16) -> u32
-    requires { Installed bytes.now }
-{
-    if pass < READ_ONLY {
-        return State::NO_ROM;
-    }
-    roms::suited(bytes, seed, state)
-}
-
-// Executes a word from a state.
-fn executed(bytes: &mut [u8], seed: &mut u32, state: State, word: u16, tally: Tally) -> Tally
-    requires { Installed bytes.old }
-{
-    let record = psi::split(records::record(seed, 4));
-    let executed = cpu::perform(bytes, state, record.levels, word, cpu::ALLOWANCE);
-    let deed = executed.deed;
-    let after = executed.state;
-    let answer = step_answers::told_word(state.pc, deed);
-    let sum = states::mix_state(states::mix_answer(tally.sum, answer), after);
-    Tally {
-        sum: mix_registers(sum, bytes, after.wp),
-        unassigned: std::num::wrapping_add_u64(
-            tally.unassigned,
-            step_answers::missed(answer) as u64,
-        ),
-    }
-}
-
-// A word and a new state, as the pass has them. All words are put in place before any part of the memory is read-only.
-fn one(bytes: &mut [u8], seed: &mut u32, word: u16, pass: u16, tally: Tally) -> Tally
-    requires { Installed bytes.old }
-{
-    let mut state = states::state(seed, 0);
-    let first = prepared(bytes, seed, state, word, pass);
-    let rom = first_read_only(bytes, seed, state, pass);
-    state.rom = rom;
-    executed(bytes, seed, state, first, tally)
-}
-
-// The words of a line.
-fn words(bytes: &mut [u8], seed: &mut u32, first: u16, pass: u16) -> Tally
-    requires installed { Installed bytes.old }
-    requires first_bound { first ≤ 63488 }
-{
-    let mut tally = Tally {
-        sum: 0,
-        unassigned: 0,
+// All passes.
+fn all(rt: &impl Print) -> io::Result<()> {
+    let mut bench = Bench {
+        bytes: [0; memory::SIZE],
+        seed: Seed::new(9980),
     };
-    let mut i: u16 = 0;
-    while i < WORDS {
-        tally = one(bytes, seed, first + i, pass, tally);
-        i += 1;
+    for pass in PASSES {
+        for line in 0..LINES {
+            bench.line(rt, line * WORDS, pass)?;
+        }
     }
-    tally
+    Ok(())
 }
 
-// A line: new memory, its words, and the sums.
-fn line(rt: &impl Print, bytes: &mut [u8], seed: &mut u32, n: u16)
-    requires installed { Installed bytes.old }
-    requires n_bound { n < 224 }
-{
-    seeds::fill(bytes, seed);
-    let first = n % PASS * WORDS;
-    let tally = words(bytes, seed, first, n / PASS);
-    lines::number(rt, first as u64);
-    lines::number(rt, tally.unassigned);
-    lines::sum(rt, tally.sum);
-    lines::last(rt, seeds::mix_bytes(0, bytes));
-}
-
-fn main(rt: HostRuntime) {
-    let mut bytes = [0u8; memory::SIZE];
-    let mut seed: u32 = 9980;
-    let mut n: u16 = 0;
-    while n < LINES {
-        line(&rt, &mut bytes, &mut seed, n);
-        n += 1;
-    }
+fn main(rt: HostRuntime) -> ExitCode {
+    seeds::status(all(&rt))
 }

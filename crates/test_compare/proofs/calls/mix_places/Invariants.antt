@@ -1,9 +1,0 @@
--- A turn for each of the 512 places.
-use Rattle.std.proofs.Common.{◌-◌, ◌≤◌}
-use Rattle.test_compare.proofs.calls.mix_places.Given as goal
-
-abbrev pub invariant-loop-i : goal.invariant-loop-i
-invariant-loop-i l = l.i ≤ 512
-
-abbrev pub decreases-loop-i : goal.decreases-loop-i
-decreases-loop-i l = 512 - l.i

@@ -1,9 +1,0 @@
--- A turn for each of the line's 8 memories, which leaves the lengths of memory and records.
-use Rattle.std.proofs.Common.{◌≡◌, ◌-◌, ◌≤◌, length}
-use Rattle.test_runs.proofs.clock_mode.line.Given as goal
-
-abbrev pub invariant-loop-i : goal.invariant-loop-i
-invariant-loop-i g l = (length l.bytes ≡ length l.initial.bytes) × (length l.records ≡ length l.initial.records) × (l.i ≤ 8)
-
-abbrev pub decreases-loop-i : goal.decreases-loop-i
-decreases-loop-i g l = 8 - l.i

@@ -1,9 +1,0 @@
--- A turn for each of the 24 steps, as in clock mode.
-use Rattle.std.proofs.Common.{◌≡◌, ◌-◌, ◌≤◌, length}
-use Rattle.test_runs.proofs.read_only.steps.Given as goal
-
-abbrev pub invariant-loop-at : goal.invariant-loop-at
-invariant-loop-at l = (length l.bytes ≡ length l.initial.bytes) × (l.at ≤ l.end) × (l.end ≤ 279)
-
-abbrev pub decreases-loop-at : goal.decreases-loop-at
-decreases-loop-at l = l.end - l.at

@@ -1,0 +1,90 @@
+// What the runs are made on.
+ghost use Rattle.std.specs.Prelude.{◌<◌, ◌≤◌};
+
+use machine::{RunAnswer, State};
+use replay_core::run;
+use seeds::{Seed, Sum};
+
+// How many pin records there are.
+pub const RECORDS: usize = 1024;
+
+// A memory and a copy of it, the pin records, and the generator of all that is drawn.
+#[derive(Drop)]
+pub struct Bench {
+    pub bytes: [u8; memory::SIZE],
+    pub copy: [u8; memory::SIZE],
+    pub records: [u32; RECORDS],
+    pub seed: Seed,
+}
+
+// How quiet the pins are.
+fn quiet(seed: &mut Seed) -> u16
+    ensures { 0 < result }
+{
+    4 << seed.below(5)
+}
+
+// A run on the first bytes of the memory.
+fn run_part(
+    bytes: &mut [u8; memory::SIZE],
+    size: usize,
+    state: State,
+    records: &[u32],
+    steps: usize,
+) -> RunAnswer
+    requires { size ≤ 16384 }
+{
+    run::run(&mut bytes[..size], state, records, steps, 1)
+}
+
+impl Bench {
+    // Records of new pins, as quiet as the seed says.
+    pub fn renew_records(&mut self) {
+        let quiet = quiet(&mut self.seed);
+        for record in &mut self.records {
+            *record = self.seed.record(quiet);
+        }
+    }
+
+    // A run that is refused, for one reason or for two. A state is spoiled in one of the first `ways`.
+    pub fn run_refused(&mut self, state: State, ways: u16) -> RunAnswer
+        requires { 0 < ways }
+    {
+        let Bench {
+            bytes,
+            records,
+            seed,
+            ..
+        } = self;
+        let many = RECORDS + 1 + seed.below(3) as usize;
+        let way = seed.below(ways);
+        let bad = seed.spoiled(state, way);
+        let (short, state, steps) = match seed.below(5) {
+            0 => (true, state, 1),
+            1 => (true, bad, many),
+            2 => (false, bad, 1),
+            3 => (false, bad, many),
+            _ => (false, state, many),
+        };
+        let size = if short {
+            seed.below(memory::SIZE as u16) as usize
+        } else {
+            memory::SIZE
+        };
+        run_part(bytes, size, state, records, steps)
+    }
+}
+
+// Adds a count to the sum.
+fn mix_count(sum: &mut Sum, count: usize) {
+    sum.mix((count % 65536) as u32);
+}
+
+// Adds all that a run answers to the sum.
+pub fn mix_run(sum: &mut Sum, answer: &RunAnswer) {
+    sum.mix(answer.number);
+    mix_count(sum, answer.steps);
+    mix_count(sum, answer.unassigned);
+    sum.mix_answer(answer.last);
+    sum.mix_state(answer.state);
+}
