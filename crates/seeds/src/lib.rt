@@ -1,17 +1,14 @@
 // Inputs for the test programs, made from a seed, and sums of what came out. The independent program makes the same ones.
 #![tactic(auto)]
 
-ghost use Rattle.std.specs.Prelude.{◌≡◌, ◌<◌, cond};
-ghost use Rattle.std.specs.Result.{is_ok};
-ghost use Rattle.std.specs.Process.{exit_status};
+ghost use Rattle.std.specs.Prelude.{◌<◌};
 
 mod records;
 pub mod roms;
 pub mod spoiled;
 pub mod states;
 
-use std::process::ExitCode;
-use std::{fmt, io};
+use std::fmt;
 
 // A linear congruential generator over 32 bits, of which the high half is used.
 #[derive(Drop)]
@@ -90,16 +87,5 @@ impl From<Sum> for u32 {
 impl fmt::Display for Sum {
     fn fmt<W: fmt::Write>(&self, f: &mut fmt::Formatter<W>) -> fmt::Result {
         write!(f, "{:08x}", self.0)
-    }
-}
-
-// The status of a program that has printed its lines, or has not. (Returned from `main`, the error would be told in words of the C library,
-// of which one more function would be assumed.)
-pub fn status(printed: io::Result<()>) -> ExitCode
-    ensures { exit_status result ≡ cond (is_ok printed) 0 1 }
-{
-    match printed {
-        Ok(()) => ExitCode::SUCCESS,
-        Err(_) => ExitCode::FAILURE,
     }
 }

@@ -9,7 +9,6 @@ use psi::Psi;
 use seeds::states::CLOCK_NUMBERS;
 use seeds::{Seed, Sum};
 use std::io;
-use std::process::ExitCode;
 
 // The seed of all that is drawn.
 const SEED: u32 = 9901;
@@ -158,6 +157,6 @@ fn all(rt: &impl Print) -> io::Result<()> {
     Ok(())
 }
 
-fn main(rt: HostRuntime) -> ExitCode {
-    seeds::status(all(&rt))
+fn main(rt: HostRuntime) {
+    let _ = all(&rt);
 }

@@ -11,7 +11,6 @@ use pairs::{Damaged, Pair};
 use patterns::Pattern;
 use seeds::{Seed, Sum};
 use std::io;
-use std::process::ExitCode;
 
 mod calls;
 mod fields;
@@ -167,6 +166,6 @@ fn all(rt: &impl Print) -> io::Result<()> {
     Ok(())
 }
 
-fn main(rt: HostRuntime) -> ExitCode {
-    seeds::status(all(&rt))
+fn main(rt: HostRuntime) {
+    let _ = all(&rt);
 }

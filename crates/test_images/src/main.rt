@@ -11,7 +11,6 @@ use image_seeds::damage::Case;
 use machine::State;
 use seeds::{Seed, Sum, spoiled};
 use std::io;
-use std::process::ExitCode;
 
 // Lines of the second part of the output, and cases of one of them.
 const LINES: u32 = 128;
@@ -268,6 +267,6 @@ fn all(rt: &impl Print) -> io::Result<()> {
     Ok(())
 }
 
-fn main(rt: HostRuntime) -> ExitCode {
-    seeds::status(all(&rt))
+fn main(rt: HostRuntime) {
+    let _ = all(&rt);
 }

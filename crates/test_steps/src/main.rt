@@ -8,7 +8,6 @@ use machine::{State, bus};
 use memory::Width;
 use seeds::{Seed, Sum};
 use std::io;
-use std::process::ExitCode;
 
 // Words that share a line of the output, and lines of a pass over all words.
 const WORDS: u16 = 2048;
@@ -178,6 +177,6 @@ fn all(rt: &impl Print) -> io::Result<()> {
     Ok(())
 }
 
-fn main(rt: HostRuntime) -> ExitCode {
-    seeds::status(all(&rt))
+fn main(rt: HostRuntime) {
+    let _ = all(&rt);
 }
