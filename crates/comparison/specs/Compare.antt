@@ -1,11 +1,37 @@
 -- What differs between two images (document 02, Q-8): the call's answer, and the list of runs that it leaves.
-use Rattle.std.specs.Prelude.{ℕ, zero, suc, ◌+◌, ◌*◌, not, List, [], length, eqb, if◌then◌else◌}
+use Rattle.std.specs.Prelude.{ℕ, zero, suc, ◌+◌, ◌*◌, not, List, [], length, eqb, if◌then◌else◌, Result, Ok, Err}
+use Rattle.refusals.specs.declared.Refusal.{Refusal}
+use Rattle.refusals.specs.Refusals.{number, block}
 use Rattle.bits.specs.Bits.{one_if}
 use Rattle.differing_runs.specs.Runs.{Stretch, differences, runs_of, places}
 use Rattle.image_blocks.specs.Image as Image
-use Rattle.image.specs.declared.Fault.{Fault}
-use Rattle.image.specs.Calls.{image_fault}
-use Rattle.comparison.specs.declared.CompareAnswer.{CompareAnswer}
+use Rattle.image.specs.Calls.{Fault, image_fault}
+use Rattle.comparison.specs.declared.Compared as Outcome
+use Rattle.comparison.specs.declared.ComparisonRefused.{ComparisonRefused}
+use Rattle.comparison.specs.declared.ComparisonRefused.TheVariants.{First, Second}
+
+-- Comparing's answer: the number of the table of refusals, the image and the block that a refusal names, which fields of block 0 differ
+-- (weight 2^k for field k), and how many runs of bytes.
+pub record CompareAnswer : Type 0 where
+  pub number : ℕ
+  pub image : ℕ
+  pub block : ℕ
+  pub fields : ℕ
+  pub runs : ℕ
+
+-- which image is refused, and why
+unfoldable pub image_refused : ComparisonRefused → ℕ
+image_refused (First r) = 1
+image_refused (Second r) = 2
+
+unfoldable pub refusal : ComparisonRefused → Refusal
+refusal (First r) = r
+refusal (Second r) = r
+
+-- What the call gives, in these terms. The numbers of refusals differ, so this determines what it gives.
+unfoldable pub compare_answer : Result Outcome.Compared ComparisonRefused → CompareAnswer
+compare_answer (Ok c) = record { number = 0; image = 0; block = 0; fields = c.fields; runs = c.runs }
+compare_answer (Err e) = record { number = number (refusal e); image = image_refused e; block = block (refusal e); fields = 0; runs = 0 }
 
 -- Field k as it is compared: word k of block 0's content, 0 the format word; the last is the read-only address, for which edition 1 has the
 -- number that means none.

@@ -10,8 +10,7 @@ use Rattle.memory.specs.Memory.{size}
 use Rattle.machine.specs.State.{blank}
 use Rattle.differing_runs.specs.Runs.{numbers, places}
 use Rattle.image_blocks.specs.Image as Image
-use Rattle.image.specs.declared.Fault.{Fault}
-use Rattle.image.specs.Calls.{image_fault, read_fault, read}
+use Rattle.image.specs.Calls.{Fault, image_fault, read_fault, read}
 use Rattle.image.proofs.Answers.{alone, reads, reads_not, read_number}
 use Rattle.comparison.specs.Compare.{refused, accepted, compare}
 

@@ -1,15 +1,15 @@
 -- Differences of lists put together of parts, and of lists that agree.
 use Prim.Native.Nat.{ℕ, suc, ◌+◌, ◌<◌, ◌≤◌}
 use mathlib.Core.Path.{◌≡◌, refl, sym, ap, ◌∙◌}
-use mathlib.Core.Bool.{Bool, true, false, not, ◌&&◌, and_assoc, and-true, not-not, true≢false}
+use mathlib.Core.Bool.{false, not}
 use mathlib.Core.List.{List, [], ◌∷◌, ◌++◌}
 use native.Mathlib.Omega.{arith}
 use native.Mathlib.Numerals.{add-one}
 use lib.ListN.{length, get_or, take, drop, replicate}
 use lib.Seq.{take-suc, take-add, length-take-le}
+use borrow.Author.Tests.{eq-eqb}
 use lib.Dec.{eqb}
 use Rattle.differing_runs.specs.Runs.{differences}
-use Rattle.differing_runs.specs.Scan.{none}
 
 pub differences_append :
     (a b c d : List ℕ) → length a ≡ length b → differences (a ++ c) (b ++ d) ≡ differences a b ++ differences c d
@@ -44,25 +44,8 @@ one_more a b i h l =
     (differences_append (take i a) (take i b) (get_or a i 0 ∷ []) (get_or b i 0 ∷ [])
     (length-take-le i a (omega arith) ∙ sym (length-take-le i b (omega arith))))
 
-none_append : (a b : List Bool) → none (a ++ b) ≡ (none a && none b)
-unfolding none
-none_append [] b = refl
-none_append (d ∷ a) b = rw (none_append a b) (sym (and_assoc (not d) (none a) (none b)))
-
-pub none_more :
-    (a b : List ℕ) (i : ℕ) → length a ≡ length b → i < length a
-    → none (differences (take (i + 1) a) (take (i + 1) b)) ≡ (none (differences (take i a) (take i b)) && eqb (get_or a i 0) (get_or b i 0))
-unfolding none
-none_more a b i h l =
-    rw (
-      one_more a b i h l,
-      none_append (differences (take i a) (take i b)) (not (eqb (get_or a i 0) (get_or b i 0)) ∷ []),
-      not-not (eqb (get_or a i 0) (get_or b i 0)),
-      and-true (eqb (get_or a i 0) (get_or b i 0)),
-    )
-
-pub none_differs : (ds : List Bool) → none ds ≡ true → ds ≡ replicate (length ds) false
-unfolding none
-none_differs [] h = refl
-none_differs (true ∷ ds) h = absurd (true≢false (sym h))
-none_differs (false ∷ ds) h = ap (◌∷◌ false) (none_differs ds h)
+-- no byte differs from itself
+pub none_differs : (a : List ℕ) → differences a a ≡ replicate (length a) false
+unfolding differences
+none_differs [] = refl
+none_differs (x ∷ a) = rw (eq-eqb x x refl) (ap (◌∷◌ false) (none_differs a))

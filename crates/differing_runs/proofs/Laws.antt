@@ -172,21 +172,24 @@ module _ (seen : List Bool) (found : Found) (list : List ℕ) (h : Holds seen fo
 
   -- agreeing bytes end a run
   pub agreeing :
-      (n runs : ℕ) → runs ≡ length (runs_of seen) → Holds (seen ++ replicate (suc n) false) (record { ended = runs; length = 0 }) list
-  agreeing n runs e =
+      (n : ℕ) (after : Found) → 0 < n → after.ended ≡ length (runs_of seen) → after.length ≡ 0
+      → Holds (seen ++ replicate n false) after list
+  agreeing n after some e none =
+      let more : n ≡ suc (n - 1) = omega arith in
       record {
-        earlier = seen ++ replicate (suc n) false;
-        ends = closed_end false n seen;
-        parts = sym (append-nil (seen ++ replicate (suc n) false));
-        counted = e ∙ ap length (sym (agreeing_end false 0 (suc n) seen));
-        written = h.written ∙ ap places (sym (agreeing_end false 0 (suc n) seen));
+        earlier = seen ++ replicate n false;
+        ends = rw more (closed_end false (n - 1) seen);
+        parts = rw none (sym (append-nil (seen ++ replicate n false)));
+        counted = e ∙ ap length (sym (agreeing_end false 0 n seen));
+        written = h.written ∙ ap places (sym (agreeing_end false 0 n seen));
       }
 
   -- a differing byte goes on with it
   pub differing :
-      (start : ℕ) → start + found.length ≡ length seen
-      → Holds (seen ++ true ∷ []) (record { ended = found.ended; length = found.length + 1 }) (put_run list found.ended start (found.length + 1))
-  differing start e =
+      (start : ℕ) (after : Found) → start + found.length ≡ length seen
+      → after.ended ≡ found.ended → after.length ≡ found.length + 1
+      → Holds (seen ++ true ∷ []) after (put_run list found.ended start (found.length + 1))
+  differing start after e same longer_by_one =
       let more : seen ++ true ∷ [] ≡ h.earlier ++ replicate (found.length + 1) true =
       ap (λ (l : List Bool). l ++ true ∷ []) h.parts
       ∙ append_assoc h.earlier (replicate found.length true) (true ∷ [])
@@ -197,8 +200,8 @@ module _ (seen : List Bool) (found : Found) (list : List ℕ) (h : Holds seen fo
       record {
         earlier = h.earlier;
         ends = h.ends;
-        parts = more;
-        counted = h.counted;
+        parts = rw longer_by_one more;
+        counted = same ∙ h.counted;
         written =
             rw (h.written, found_runs, h.counted, first, add-one found.length)
             (longer (runs_of h.earlier) (length h.earlier) found.length

@@ -1,16 +1,11 @@
 -- How the code finds runs: it takes byte after byte, and keeps what it has found in the bytes so far.
-use Rattle.std.specs.Prelude.{ℕ, ◌+◌, ◌*◌, ◌≡◌, Bool, true, false, not, ◌&&◌, List, [], ◌∷◌, ◌++◌, length, replicate, set, ltb, if◌then◌else◌}
+use Rattle.std.specs.Prelude.{ℕ, ◌+◌, ◌*◌, ◌≡◌, Bool, true, false, not, List, [], ◌∷◌, ◌++◌, length, replicate, set, ltb, if◌then◌else◌}
 use Rattle.differing_runs.specs.Runs.{runs_of, listed, places}
 use Rattle.differing_runs.specs.declared.Found.{Found}
 
 -- a list of runs with run n, counted from 0, put into its places if it has any
 unfoldable pub put_run : List ℕ → ℕ → ℕ → ℕ → List ℕ
 put_run list n start size = if ltb n listed then set (set list (2 * n) start) (2 * n + 1) size else list
-
--- whether none of these bytes differs
-unfoldable pub none : List Bool → Bool
-none [] = true
-none (d ∷ ds) = not d && none ds
 
 -- whether these bytes end in one that agrees, given whether the byte before them differs
 unfoldable pub closed : Bool → List Bool → Bool

@@ -1,39 +1,44 @@
 // Runs of bytes that differ between two memories, found from byte 0 on, part by part, and listed in lent places.
 #![tactic(auto)]
 
-ghost use Rattle.std.specs.Prelude.{◌≡◌, Bool, false, List, [], ◌∷◌, ◌++◌, ℕ, suc, ◌+◌, ◌<◌, ◌≤◌, length, replicate};
+ghost use Rattle.std.specs.Prelude.{◌≡◌, Bool, true, false, List, [], ◌∷◌, ◌++◌, ℕ, ◌+◌, ◌<◌, ◌≤◌, length, replicate};
 ghost use Rattle.differing_runs.specs.Runs.{differences, runs_of, places};
-ghost use Rattle.differing_runs.specs.Scan.{none, put_run, Holds};
+
+mod listing;
 
 // How many runs are listed at most, and the places that they take: start and length of each.
 pub const LISTED: usize = 256;
 
 pub const PLACES: usize = 2 * LISTED;
 
-// What is found in the bytes so far: how many runs have ended, and how long the one is that has not, 0 if there is none.
+// What is found in the bytes before `address`: how many runs have ended, and how long the one is that has not, 0 if there is none.
 #[derive(Clone, Copy)]
 pub struct Found {
+    pub address: usize,
     pub ended: usize,
     pub length: usize,
+    pub ghost within: { ended + length ≤ address },
 }
 
 impl Found {
+    ghost use Rattle.differing_runs.specs.Scan.{Holds};
+
     // Before the first byte.
     pub fn nothing() -> Found
-        ensures length_value { result.ended + result.length ≡ 0 }
+        ensures address { result.address ≡ 0 }
         ensures holds { Holds [] result (places []) }
     {
         Found {
+            address: 0,
             ended: 0,
             length: 0,
         }
     }
 
     // How many runs there are.
-    pub fn runs(self) -> usize
-        requires { self.ended + self.length ≤ 65536 }
-        ensures upper_bound { result ≤ self.ended + self.length }
-        ensures value { (seen : List Bool) (list : List ℕ) → Holds seen self list → result ≡ length (runs_of seen) }
+    pub fn runs(&self) -> usize
+        ensures bound { result ≤ self.now.address }
+        ensures value { (seen : List Bool) (list : List ℕ) → Holds seen self.now list → result ≡ length (runs_of seen) }
     {
         if self.length == 0 {
             self.ended
@@ -42,104 +47,58 @@ impl Found {
         }
     }
 
-    // After a byte or more that agree.
-    fn agreed(self) -> Found
-        requires { self.ended + self.length ≤ 65536 }
-        ensures length_bound { result.ended + result.length ≤ self.ended + self.length }
-        ensures holds { (seen : List Bool) (list : List ℕ) (n : ℕ) → Holds seen self list → Holds (seen ++ replicate (suc n) false) result list }
+    // Goes over bytes that agree.
+    fn agree(&mut self, count: usize)
+        requires some { 0 < count }
+        requires fits { self.old.address + count ≤ 65536 }
+        ensures address { self.new.address ≡ self.old.address + count }
+        ensures holds { (seen : List Bool) (list : List ℕ) → Holds seen self.old list → Holds (seen ++ replicate count false) self.new list }
     {
-        Found {
-            ended: self.runs(),
-            length: 0,
+        self.ended = self.runs();
+        self.length = 0;
+        self.address += count;
+    }
+
+    // Goes over a byte that differs.
+    fn differ(&mut self, list: &mut [u32; PLACES])
+        requires fits { self.old.address < 65536 }
+        ensures address { self.new.address ≡ self.old.address + 1 }
+        ensures holds { (seen : List Bool) → length seen ≡ self.old.address → Holds seen self.old list.old → Holds (seen ++ true ∷ []) self.new list.new }
+    {
+        let start = self.address - self.length;
+        self.length += 1;
+        self.address += 1;
+        listing::put_run(list, self.ended, start as u32, self.length as u32);
+    }
+
+    // Goes over two parts byte by byte.
+    fn each(&mut self, first: &[u8], second: &[u8], list: &mut [u32; PLACES])
+        requires same_size { length first.now ≡ length second.now }
+        requires fits { self.old.address + length first.now ≤ 65536 }
+        ensures address { self.new.address ≡ self.old.address + length first.now }
+        ensures holds { (seen : List Bool) → length seen ≡ self.old.address → Holds seen self.old list.old → Holds (seen ++ differences first.now second.now) self.new list.new }
+    {
+        for (one, other) in first.iter().zip(second) {
+            if one == other {
+                self.agree(1);
+            } else {
+                self.differ(list);
+            }
         }
     }
-}
 
-// Whether all bytes of two parts agree: no way out of the loop, so that the compiler takes many bytes at a time.
-fn same(first: &[u8], second: &[u8]) -> bool
-    requires { length first.now ≡ length second.now }
-    ensures { result ≡ none (differences first.now second.now) }
-{
-    let mut agree = true;
-    let mut i = 0;
-    while i < first.len() {
-        if first[i] != second[i] {
-            agree = false;
+    // Goes over two parts, which carry the memories' bytes from `address` on; where they agree, all at once.
+    pub fn scan(&mut self, first: &[u8], second: &[u8], list: &mut [u32; PLACES])
+        requires same_size { length first.now ≡ length second.now }
+        requires some { 0 < length first.now }
+        requires fits { self.old.address + length first.now ≤ 65536 }
+        ensures address { self.new.address ≡ self.old.address + length first.now }
+        ensures holds { (seen : List Bool) → length seen ≡ self.old.address → Holds seen self.old list.old → Holds (seen ++ differences first.now second.now) self.new list.new }
+    {
+        if first == second {
+            self.agree(first.len());
+        } else {
+            self.each(first, second, list);
         }
-        i += 1;
     }
-    agree
-}
-
-// Puts run `n`, counted from 0, into its places, if it is listed.
-fn put_run(list: &mut [u32; PLACES], n: usize, start: u32, size: u32)
-    ensures { list.new ≡ put_run list.old n start size }
-{
-    if n < LISTED {
-        list[2 * n] = start;
-        list[2 * n + 1] = size;
-    }
-}
-
-// One byte more, at `address`.
-fn noted(list: &mut [u32; PLACES], found: Found, address: usize, differs: bool) -> Found
-    requires address_bound { address < 65536 }
-    requires length_bound { found.ended + found.length ≤ address }
-    ensures length_bound_2 { result.ended + result.length ≤ address + 1 }
-    ensures holds { (seen : List Bool) → length seen ≡ address → Holds seen found list.old → Holds (seen ++ differs ∷ []) result list.new }
-{
-    if !differs {
-        return found.agreed();
-    }
-    let start = address - found.length;
-    let length = found.length + 1;
-    put_run(list, found.ended, start as u32, length as u32);
-    Found {
-        ended: found.ended,
-        length,
-    }
-}
-
-// Byte by byte: two parts that carry the memories' bytes from `address` on.
-fn each(
-    first: &[u8],
-    second: &[u8],
-    list: &mut [u32; PLACES],
-    before: Found,
-    address: usize,
-) -> Found
-    requires first_len { length first.now ≡ length second.now }
-    requires first_bound { address + length first.now ≤ 65536 }
-    requires length_bound { before.ended + before.length ≤ address }
-    ensures length_bound_2 { result.ended + result.length ≤ address + length first.now }
-    ensures holds { (seen : List Bool) → length seen ≡ address → Holds seen before list.old → Holds (seen ++ differences first.now second.now) result list.new }
-{
-    let mut found = before;
-    let mut i = 0;
-    while i < first.len() {
-        found = noted(list, found, address + i, first[i] != second[i]);
-        i += 1;
-    }
-    found
-}
-
-// The same; parts that agree are passed over at once.
-pub fn scanned(
-    first: &[u8],
-    second: &[u8],
-    list: &mut [u32; PLACES],
-    before: Found,
-    address: usize,
-) -> Found
-    requires first_len { length first.now ≡ length second.now }
-    requires first_nonzero { 0 < length first.now }
-    requires first_bound { address + length first.now ≤ 65536 }
-    requires length_bound { before.ended + before.length ≤ address }
-    ensures length_bound_2 { result.ended + result.length ≤ address + length first.now }
-    ensures holds { (seen : List Bool) → length seen ≡ address → Holds seen before list.old → Holds (seen ++ differences first.now second.now) result list.new }
-{
-    if same(first, second) {
-        return before.agreed();
-    }
-    each(first, second, list, before, address)
 }

@@ -8,12 +8,9 @@ use native.Mathlib.Omega.{arith}
 use borrow.Author.Tests.{eq-eqb, eqb-true}
 use lib.ListN.{length}
 use lib.Dec.{eqb}
-use Rattle.machine.specs.declared.State.{State}
-use Rattle.machine.specs.State.{well_formed}
 use Rattle.memory.specs.Memory.{size}
 use Rattle.image_blocks.specs.Image as Image
-use Rattle.image.specs.declared.Fault.{Fault}
-use Rattle.image.specs.Calls.{fault, first_fault, content_fault, image_fault, read_fault, write_fault}
+use Rattle.image.specs.Calls.{Fault, fault, first_fault, content_fault, image_fault, read_fault}
 
 -- a test whose refusal would show was passed, and the tests after it were
 pub passed : {A : Type 0} (number : A → ℕ) (b : Bool) (x y : A) → (number x ≡ 0 → b ≡ true) → number (if not b then x else y) ≡ 0 → (b ≡ true) × (number y ≡ 0)
@@ -49,22 +46,3 @@ unfolding read_fault
 accepted img m h =
     let one = passed (λ (f : Fault). f.number) (eqb (length m) size) (fault 1) (image_fault img) (λ e. absurd (omega arith)) h in
     record { memory_sized = eqb-true (length m) size one.0; image_right = faultless img one.1 }
-
-pub record Writable (s : State) (m img : List ℕ) : Type 0 where
-  pub memory_sized : length m ≡ size
-  pub image_sized : length img ≡ Image.image_size
-  pub formed : well_formed s ≡ true
-
-pub writable : (s : State) (m img : List ℕ) → write_fault s m img ≡ 0 → Writable s m img
-unfolding write_fault
-writable s m img h =
-    let last : ℕ = if not (well_formed s) then 2 else 0 in
-    let sized : ℕ = if not (eqb (length img) Image.image_size) then 5 else last in
-    let one = passed (λ n. n) (eqb (length m) size) 1 sized (λ e. absurd (omega arith)) h in
-    let two = passed (λ n. n) (eqb (length img) Image.image_size) 5 last (λ e. absurd (omega arith)) one.1 in
-    let three = passed (λ n. n) (well_formed s) 2 0 (λ e. absurd (omega arith)) two.1 in
-    record {
-      memory_sized = eqb-true (length m) size one.0;
-      image_sized = eqb-true (length img) Image.image_size two.0;
-      formed = three.0;
-    }

@@ -1,12 +1,42 @@
 -- The two calls: when they refuse, what they answer, and what the lent bytes are afterwards.
-use Rattle.std.specs.Prelude.{ℕ, zero, suc, ◌+◌, Bool, not, ◌&&◌, ◌||◌, List, length, eqb, if◌then◌else◌}
+use Rattle.std.specs.Prelude.{ℕ, zero, suc, ◌+◌, Bool, not, ◌&&◌, ◌||◌, List, length, eqb, if◌then◌else◌, ⊤, Result, Ok, Err}
+use Rattle.refusals.specs.declared.Refusal.{Refusal}
+use Rattle.refusals.specs.Refusals.{number, block, number_of, block_of}
 use Rattle.memory.specs.Memory.{size}
 use Rattle.machine.specs.declared.State.{State}
+use Rattle.machine.specs.declared.Refused.{Refused}
 use Rattle.machine.specs.State.{blank, well_formed}
-use Rattle.image.specs.declared.Fault.{Fault}
-use Rattle.image.specs.declared.ReadAnswer.{ReadAnswer}
-use Rattle.image.specs.declared.WriteAnswer.{WriteAnswer}
 use Rattle.image_blocks.specs.Image as Image
+
+-- a refusal's number, 0 for none, and the block that it names
+pub record Fault : Type 0 where
+  pub number : ℕ
+  pub block : ℕ
+
+-- reading's answer: the number of the table of refusals, the block that a refusal names, and the state
+pub record ReadAnswer : Type 0 where
+  pub number : ℕ
+  pub block : ℕ
+  pub state : State
+
+-- writing's answer: the number and the state
+pub record WriteAnswer : Type 0 where
+  pub number : ℕ
+  pub state : State
+
+-- What a call gives, in these terms. The numbers of refusals differ, so each determines what the call gives.
+
+abbrev pub fault_of : {A : Type 0} → Result A Refusal → Fault
+fault_of r = record { number = number_of r; block = block_of r }
+
+unfoldable pub read_answer : Result State Refused → ReadAnswer
+read_answer (Ok s) = record { number = 0; block = 0; state = s }
+read_answer (Err e) = record { number = number e.refusal; block = block e.refusal; state = e.state }
+
+-- the state is the caller's own where writing was accepted
+unfoldable pub write_answer : State → Result ⊤ Refused → WriteAnswer
+write_answer s (Ok a) = record { number = 0; state = s }
+write_answer s (Err e) = record { number = number e.refusal; state = e.state }
 
 -- a refusal that names no block
 abbrev pub fault : ℕ → Fault
@@ -51,6 +81,10 @@ read img m =
     if eqb (read_fault img m).number 0
     then record { answer = record { number = 0; block = 0; state = Image.state_of img }; memory = Image.memory_of img }
     else record { answer = record { number = (read_fault img m).number; block = (read_fault img m).block; state = blank }; memory = m }
+
+-- what a refused read gives
+abbrev pub unread : Refusal → Refused
+unread r = record { refusal = r; state = blank }
 
 -- Writing: 1 memory's size, 5 the buffer's, 2 the state.
 unfoldable pub write_fault : State → List ℕ → List ℕ → ℕ

@@ -1,4 +1,5 @@
 pub mod Lists
 pub mod Words
+pub mod JoinedBits
 pub mod Parts
 pub mod Written

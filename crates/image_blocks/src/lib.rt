@@ -1,13 +1,15 @@
 // Single blocks: made, judged, and taken apart.
 #![tactic(auto)]
 
-ghost use Rattle.std.specs.Prelude.{◌≡◌, ℕ, suc, ◌+◌, ◌-◌, ◌*◌, ◌%◌, ◌<◌, min, List, length, take, slice_index};
-ghost use Rattle.memory.specs.Memory.{Installed, size};
+ghost use Rattle.std.specs.Prelude.{◌≡◌, ℕ, suc, ◌+◌, ◌-◌, ◌*◌, ◌%◌, ◌<◌, min, List, length, take, slice_index, OnErr};
+ghost use Rattle.memory.specs.Memory.{size};
+ghost use Rattle.refusals.specs.Refusals as Refusals;
 ghost use Rattle.image_blocks.specs.Image as Image;
 ghost use Rattle.image_blocks.specs.Blocks as Blocks;
 
 use machine::State;
 use psi::Psi;
+use refusals::Refusal;
 
 // The bytes of a block: its number, its content, and from `CHECK` on its check word.
 pub const BLOCK_SIZE: usize = 512;
@@ -52,45 +54,22 @@ pub const TAIL_END: usize = BLOCK_SIZE * LAST + CHECK;
 // A block's words sum to this.
 pub const SUM: u16 = 0xFFFF;
 
-// Pair `i` of the bytes as a number in the host's order, its first byte the low one. A function of its own, so that the compiler makes one
-// load of it.
-fn pair(part: &[u8], i: usize) -> u16
-    requires { 2 * i + 1 < length part.now }
-    ensures { result ≡ slice_index part.now (2 * i + 1) * 256 + slice_index part.now (2 * i) }
-{
-    memory::word(part[2 * i + 1], part[2 * i])
-}
-
-// The sum of the words that the bytes are, modulo 65536.
+// The sum of the words that the bytes are, modulo 65536; with no way out before the end, so that the compiler takes many words at a time.
 fn words_sum(part: &[u8]) -> u16
     ensures { result ≡ Image.words_sum part.now % 65536 }
 {
-    let pairs = part.len() / 2;
-    let mut highs: u16 = 0;
-    let mut lows: u16 = 0;
-    let mut i = 0;
-    // A word's high byte is its pair's low one. The sum of the high bytes matters modulo 256 only, so whole pairs are summed: what stands
-    // above a low byte adds multiples of 256.
-    while i < pairs {
-        let both = pair(part, i);
-        highs = std::num::wrapping_add_u16(highs, both);
-        lows = std::num::wrapping_add_u16(lows, both / 256);
-        i += 1;
-    }
-    std::num::wrapping_add_u16(highs % 256 * 256, lows)
+    let (words, _) = part.as_chunks::<2>();
+    words.iter().fold(
+        0u16,
+        |sum, word| sum.wrapping_add(u16::from_be_bytes(*word)),
+    )
 }
 
-// Whether all bytes are 0: whether no bit is set in any.
+// Whether all bytes are 0: whether no bit is set in any. (`all` would stop at the first, and take byte by byte.)
 pub fn zeros(part: &[u8]) -> bool
     ensures { result ≡ Image.zeros part.now }
 {
-    let mut ones: u8 = 0;
-    let mut i = 0;
-    while i < part.len() {
-        ones |= part[i];
-        i += 1;
-    }
-    ones == 0
+    part.iter().fold(0u8, |ones, byte| ones | *byte) == 0
 }
 
 // How many bytes of memory the blocks from 1 to `i` carry.
@@ -98,11 +77,7 @@ pub fn carried(i: usize) -> usize
     requires { i < Image.block_count }
     ensures { result ≡ min (Image.content_size * i) size }
 {
-    if i < LAST {
-        CONTENT_SIZE * i
-    } else {
-        memory::SIZE
-    }
+    (CONTENT_SIZE * i).min(memory::SIZE)
 }
 
 // Puts a word at a byte of a block.
@@ -148,9 +123,8 @@ fn header(state: State) -> [u8; BLOCK_SIZE]
 }
 
 // Block `i` + 1, which carries memory, without its check word.
-fn page(lent: &[u8], i: usize) -> [u8; BLOCK_SIZE]
-    requires installed { Installed lent.now }
-    requires i_bound { i < Image.page_count }
+fn page(lent: &[u8; memory::SIZE], i: usize) -> [u8; BLOCK_SIZE]
+    requires { i < Image.page_count }
     ensures { (s : State) → result ≡ Blocks.unchecked s lent.now (suc i) }
 {
     let mut block = [0u8; BLOCK_SIZE];
@@ -178,9 +152,8 @@ fn checked(block: [u8; BLOCK_SIZE]) -> [u8; BLOCK_SIZE]
 }
 
 // Block `i` of the image.
-pub fn block(state: State, lent: &[u8], i: usize) -> [u8; BLOCK_SIZE]
-    requires installed { Installed lent.now }
-    requires i_bound { i < Image.block_count }
+pub fn block(state: State, lent: &[u8; memory::SIZE], i: usize) -> [u8; BLOCK_SIZE]
+    requires { i < Image.block_count }
     ensures { result ≡ Image.block state lent.now i }
 {
     if i == 0 {
@@ -190,11 +163,12 @@ pub fn block(state: State, lent: &[u8], i: usize) -> [u8; BLOCK_SIZE]
     }
 }
 
-// The refusal that block `i` by itself calls for, or 0: first the check, then the number.
-pub fn block_fault(image: &[u8], i: usize) -> u16
-    requires image_len { length image.now ≡ Image.image_size }
-    requires i_bound { i < Image.block_count }
-    ensures { result ≡ Image.block_fault image.now i }
+// Judges block `i` by itself: first the check, then the number.
+#[tactic(auto, unfolding(refusals::specs::Refusals::block_of, refusals::specs::Refusals::block))]
+pub fn check_block(image: &[u8; IMAGE_SIZE], i: usize) -> Result<(), Refusal>
+    requires { i < Image.block_count }
+    ensures number { Refusals.number_of result ≡ Image.block_fault image.now i }
+    ensures block { OnErr result (Refusals.block_of result ≡ i) }
 {
     let from = BLOCK_SIZE * i;
     let low = from + 1;
@@ -202,18 +176,17 @@ pub fn block_fault(image: &[u8], i: usize) -> u16
     let sum = words_sum(&image[from..to]);
     let number = memory::word(image[from], image[low]) as usize;
     if sum != SUM {
-        return 6;
+        return Err(Refusal::Check(i as u16));
     }
     if number != i {
-        return 7;
+        return Err(Refusal::BlockNumber(i as u16));
     }
-    0
+    Ok(())
 }
 
 // Word `n` of block 0's content.
-pub fn field(image: &[u8], n: usize) -> u16
-    requires image_len { length image.now ≡ Image.image_size }
-    requires n_bound { n < Image.field_count }
+pub fn field(image: &[u8; IMAGE_SIZE], n: usize) -> u16
+    requires { n < Image.field_count }
     ensures { result ≡ Image.field_of image.now n }
 {
     let at = 2 * n + CONTENT;
@@ -221,33 +194,33 @@ pub fn field(image: &[u8], n: usize) -> u16
 }
 
 // The PSI that block 0 holds.
-fn psi_of(image: &[u8]) -> Psi
-    requires { length image.now ≡ Image.image_size }
+#[tactic(auto, unfolding(crate::specs::Image::psi_of))]
+fn psi_of(image: &[u8; IMAGE_SIZE]) -> Psi
     ensures { result ≡ Image.psi_of image.now }
 {
-    let mut psi = Psi::blank();
-    psi.mask = field(image, PSI_FIELD);
-    psi.direction = field(image, PSI_FIELD + 1);
-    psi.latch = field(image, PSI_FIELD + 2);
-    psi.load = field(image, PSI_FIELD + 3);
-    psi.decrementer = field(image, PSI_FIELD + 4);
-    psi.reading = field(image, PSI_FIELD + 5);
-    psi.phase = field(image, PSI_FIELD + 6);
-    psi.pending = field(image, PSI_FIELD + 7);
-    psi
+    Psi {
+        mask: field(image, PSI_FIELD),
+        direction: field(image, PSI_FIELD + 1),
+        latch: field(image, PSI_FIELD + 2),
+        load: field(image, PSI_FIELD + 3),
+        decrementer: field(image, PSI_FIELD + 4),
+        reading: field(image, PSI_FIELD + 5),
+        phase: field(image, PSI_FIELD + 6),
+        pending: field(image, PSI_FIELD + 7),
+    }
 }
 
 // Whether the image is of edition 1.
-fn is_first(image: &[u8]) -> bool
-    requires { length image.now ≡ Image.image_size }
+#[tactic(auto, unfolding(crate::specs::Image::is_first))]
+fn is_first(image: &[u8; IMAGE_SIZE]) -> bool
     ensures { result ≡ Image.is_first image.now }
 {
     field(image, 1) == FIRST_EDITION
 }
 
 // The first read-only address: edition 1 has none.
-pub fn rom_of(image: &[u8]) -> u32
-    requires { length image.now ≡ Image.image_size }
+#[tactic(auto, unfolding(crate::specs::Image::rom_of))]
+pub fn rom_of(image: &[u8; IMAGE_SIZE]) -> u32
     ensures { result ≡ Image.rom_of image.now }
 {
     if is_first(image) {
@@ -258,8 +231,8 @@ pub fn rom_of(image: &[u8]) -> u32
 }
 
 // Where the filler in block 0 begins: after the fields that its edition has.
-pub fn rest(image: &[u8]) -> usize
-    requires { length image.now ≡ Image.image_size }
+#[tactic(auto, unfolding(crate::specs::Image::fields_in))]
+pub fn rest(image: &[u8; IMAGE_SIZE]) -> usize
     ensures { result ≡ 2 * Image.fields_in image.now + 2 }
 {
     if is_first(image) {
@@ -270,17 +243,16 @@ pub fn rest(image: &[u8]) -> usize
 }
 
 // The state that block 0 holds.
-pub fn state_of(image: &[u8]) -> State
-    requires { length image.now ≡ Image.image_size }
+#[tactic(auto, unfolding(crate::specs::Image::state_of))]
+pub fn state_of(image: &[u8; IMAGE_SIZE]) -> State
     ensures { result ≡ Image.state_of image.now }
 {
-    let psi = psi_of(image);
     State {
         wp: field(image, 2),
         pc: field(image, 3),
         st: field(image, 4),
         flags: field(image, 5),
-        psi,
+        psi: psi_of(image),
         rom: rom_of(image),
     }
 }

@@ -11,9 +11,8 @@ use lib.Dec.{eqb}
 use Rattle.bits.proofs.Laws.{conjuncts}
 use Rattle.machine.specs.State.{well_formed}
 use Rattle.image_blocks.specs.Image as Image
-use Rattle.image.specs.declared.Fault.{Fault}
 use Rattle.image_blocks.specs.Image.{block_fault}
-use Rattle.image.specs.Calls.{first_fault, known_edition, content_fault}
+use Rattle.image.specs.Calls.{Fault, first_fault, known_edition, content_fault}
 use Rattle.image.proofs.Accepted.{passed}
 use Rattle.image_claims.specs.Claims.{SoundBlock}
 

@@ -13,9 +13,8 @@ use lib.Dec.{eqb}
 use Rattle.memory.specs.Memory.{size}
 use Rattle.machine.specs.State.{well_formed}
 use Rattle.image_blocks.specs.Image as Image
-use Rattle.image.specs.declared.Fault.{Fault}
 use Rattle.image_blocks.specs.Image.{block_fault}
-use Rattle.image.specs.Calls.{fault, first_fault, known_edition, content_fault, image_fault, read_fault}
+use Rattle.image.specs.Calls.{Fault, fault, first_fault, known_edition, content_fault, image_fault, read_fault}
 
 -- a fault found among k blocks from number i on
 pub record Low (img : List ℕ) (k i : ℕ) (f : Fault) : Type 0 where

@@ -1,93 +1,94 @@
 // A state as an array of numbers of 32 bits, for the exported calls.
 #![tactic(auto)]
 
-ghost use Rattle.std.specs.Prelude.{◌≡◌, ◌<◌};
+ghost use Rattle.std.specs.Prelude.{◌≡◌, is_ok, IfOk};
 ghost use Rattle.image_blocks.specs.Image as Image;
 ghost use Rattle.state_array.specs.Arrays as Arrays;
 
 use machine::State;
 use psi::Psi;
+use std::num::TryFromIntError;
 
-// The words of a state: WP, PC, ST and flags, from `PSI_WORD` on the PSI's, and last the read-only address.
-const PSI_WORD: usize = 4;
+// The words of a state: WP, PC, ST and flags, then the PSI's, and last the read-only address.
+pub const STATE_WORDS: usize = 4 + Psi::WORDS + 1;
 
-const ROM_WORD: usize = PSI_WORD + Psi::WORDS;
-
-pub const STATE_WORDS: usize = ROM_WORD + 1;
-
-// Whether each number fits its field: those before the read-only address have 16 bits, and that has 32.
-fn fits(words: [u32; STATE_WORDS]) -> bool
-    ensures { result ≡ Arrays.fits words }
+// The state whose words these are, if each fits its field: those before the read-only address have 16 bits, and that has 32.
+#[tactic(auto, using(crate::proofs::Below::each, std::proofs::lemmas::Bool::Decides::nat_tests), unfolding(crate::specs::Arrays::held))]
+fn held(words: [u32; STATE_WORDS]) -> Result<State, TryFromIntError>
+    ensures fit { is_ok result ≡ Arrays.fits words }
+    ensures value { IfOk result (λ s. s ≡ Arrays.held words) }
 {
-    let mut i = 0;
-    while i < ROM_WORD {
-        if words[i] > 0xFFFF {
-            return false;
-        }
-        i += 1;
-    }
-    true
+    let [
+        wp,
+        pc,
+        st,
+        flags,
+        mask,
+        direction,
+        latch,
+        load,
+        decrementer,
+        reading,
+        phase,
+        pending,
+        rom,
+    ] = words;
+    Ok(State {
+        wp: wp.try_into()?,
+        pc: pc.try_into()?,
+        st: st.try_into()?,
+        flags: flags.try_into()?,
+        psi: Psi {
+            mask: mask.try_into()?,
+            direction: direction.try_into()?,
+            latch: latch.try_into()?,
+            load: load.try_into()?,
+            decrementer: decrementer.try_into()?,
+            reading: reading.try_into()?,
+            phase: phase.try_into()?,
+            pending: pending.try_into()?,
+        },
+        rom,
+    })
 }
 
-// A number that fits 16 bits.
-fn narrow(x: u32) -> u16
-    requires { x < 65536 }
-    ensures { result ≡ x }
+// A state that is not well formed: WP is odd.
+fn unfit() -> State
+    ensures { result ≡ Arrays.unfit }
 {
-    x as u16
+    State {
+        wp: 1,
+        ..State::blank()
+    }
 }
 
 // The state of an array; one with a number that does not fit is not well formed.
+#[tactic(auto, unfolding(crate::specs::Arrays::state_of))]
 pub fn state_of(words: [u32; STATE_WORDS]) -> State
     ensures { result ≡ Arrays.state_of words }
 {
-    let mut psi = Psi::blank();
-    if !fits(words) {
-        return State {
-            wp: 1,
-            pc: 0,
-            st: 0,
-            flags: 0,
-            psi,
-            rom: State::NO_ROM,
-        };
-    }
-    psi.mask = narrow(words[PSI_WORD]);
-    psi.direction = narrow(words[PSI_WORD + 1]);
-    psi.latch = narrow(words[PSI_WORD + 2]);
-    psi.load = narrow(words[PSI_WORD + 3]);
-    psi.decrementer = narrow(words[PSI_WORD + 4]);
-    psi.reading = narrow(words[PSI_WORD + 5]);
-    psi.phase = narrow(words[PSI_WORD + 6]);
-    psi.pending = narrow(words[PSI_WORD + 7]);
-    State {
-        wp: narrow(words[0]),
-        pc: narrow(words[1]),
-        st: narrow(words[2]),
-        flags: narrow(words[3]),
-        psi,
-        rom: words[ROM_WORD],
-    }
+    held(words).unwrap_or(unfit())
 }
 
 // The words of a state.
+#[tactic(auto, unfolding(image_blocks::specs::Image::fields))]
 pub fn words_of(state: State) -> [u32; STATE_WORDS]
     ensures { result ≡ Image.fields state }
 {
     let psi = state.psi;
     [
-        state.wp as u32,
-        state.pc as u32,
-        state.st as u32,
-        state.flags as u32,
-        psi.mask as u32,
-        psi.direction as u32,
-        psi.latch as u32,
-        psi.load as u32,
-        psi.decrementer as u32,
-        psi.reading as u32,
-        psi.phase as u32,
-        psi.pending as u32,
+        u32::from(state.wp),
+        u32::from(state.pc),
+        u32::from(state.st),
+        u32::from(state.flags),
+        u32::from(psi.mask),
+        u32::from(psi.direction),
+        u32::from(psi.latch),
+        u32::from(psi.load),
+        u32::from(psi.decrementer),
+        u32::from(psi.reading),
+        u32::from(psi.phase),
+        u32::from(psi.pending),
         state.rom,
     ]
 }

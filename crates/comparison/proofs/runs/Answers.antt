@@ -13,7 +13,7 @@ use Rattle.comparison.proofs.runs.Goals as goal
 
 pub loop-i-init : goal.loop-i-init
 unfolding differences
-loop-i-init c = (omega arith, omega arith, rw c.requires.list_value c.nothing-found.ensures.holds)
+loop-i-init c = (c.nothing-found.ensures.address, rw c.requires c.nothing-found.ensures.holds)
 
 pub loop-i-preserved : goal.loop-i-preserved
 loop-i-preserved c =
@@ -23,6 +23,7 @@ loop-i-preserved c =
     let i : ℕ = c.loop-i.i in
     let to : ℕ = c.carried.result in
     let from : min (508 * i) 16384 ≡ 508 * i = omega arith in
+    let at : c.loop-i.found.address ≡ 508 * i = c.loop-i.invariant.0 ∙ from in
     let long-one : length one ≡ 16384 = memory_length a.first.now (omega arith) in
     let long-two : length two ≡ 16384 = memory_length a.second.now (omega arith) in
     let seen_one = length-take-le (508 * i) one (omega arith) in
@@ -30,12 +31,13 @@ loop-i-preserved c =
     differences_length (take (508 * i) one) (take (508 * i) two) (seen_one ∙ sym (length-take-le (508 * i) two (omega arith))) ∙ seen_one in
     let found =
     rw (
+      at,
       carried_part a.first.now i to (omega arith) (omega arith) c.carried.ensures,
       carried_part a.second.now i to (omega arith) (omega arith) c.carried.ensures,
       ← next_part one two (508 * i) (to - 508 * i) (omega arith) (omega arith),
       let e : 508 * i + (to - 508 * i) ≡ min (508 * (i + 1)) 16384 = omega arith in e,
-    ) at (c.scanned-found.ensures.holds (differences (take (508 * i) one) (take (508 * i) two)) seen (rw from at c.loop-i.invariant.2)) in
-    (omega arith, omega (arith, simp length-take at c.scanned-found.ensures.length_bound_2), found)
+    ) at (c.scan.ensures.holds (differences (take (508 * i) one) (take (508 * i) two)) (seen ∙ sym at) (rw from at c.loop-i.invariant.1)) in
+    (omega (arith, simp length-take at c.scan.ensures.address), found)
 
 pub returns : goal.returns
 returns c =
@@ -47,5 +49,5 @@ returns c =
       let e : min (508 * c.loop-i.i) 16384 ≡ 16384 = omega arith in e,
       take_all 16384 one (omega (arith, memory_length a.first.now (omega arith))),
       take_all 16384 two (omega (arith, memory_length a.second.now (omega arith))),
-    ) at c.loop-i.invariant.2 in
+    ) at c.loop-i.invariant.1 in
     record { value = c.runs.ensures.value _ _ all; list_after = all.written }

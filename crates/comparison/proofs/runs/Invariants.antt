@@ -1,5 +1,4 @@
-use Prim.Native.Nat.{min, ◌+◌, ◌-◌, ◌*◌, ◌≤◌}
-use lib.ListN.{take}
+use Rattle.std.proofs.Common.{◌≡◌, ◌*◌, min, take}
 use Rattle.differing_runs.specs.Runs.{differences}
 use Rattle.differing_runs.specs.Scan.{Holds}
 use Rattle.image_blocks.specs.Image.{memory_of}
@@ -7,9 +6,5 @@ use Rattle.comparison.proofs.runs.Given as goal
 
 abbrev pub invariant-loop-i : goal.invariant-loop-i
 invariant-loop-i l =
-    (l.i ≤ 33)
-    × (l.found.ended + l.found.length ≤ min (508 * l.i) 16384)
+    (l.found.address ≡ min (508 * l.i) 16384)
     × Holds (differences (take (min (508 * l.i) 16384) (memory_of l.first)) (take (min (508 * l.i) 16384) (memory_of l.second))) l.found l.list
-
-abbrev pub decreases-loop-i : goal.decreases-loop-i
-decreases-loop-i l = 33 - l.i

@@ -18,19 +18,19 @@ parts img from h e =
     ∙ zeros_append (take (508 - 2 * fields_in img) (drop (2 + 2 * fields_in img) img)) (take 380 (drop 17026 img))
     ∙ rw (let e : 508 - 2 * fields_in img ≡ 510 - from = omega arith in e, let e : 2 + 2 * fields_in img ≡ from = omega arith in e)
 
-pub returns-then-not-zeros : goal.returns-then-not-zeros
-returns-then-not-zeros c =
+pub returns-else-zeros : goal.returns-else-zeros
+returns-else-zeros c =
     let img = c.args.image.now in
     let from : ℕ = c.rest-rest.result in
     let front : c.zeros.result ≡ zeros (take (510 - from) (drop from img)) = c.zeros.ensures in
-    rw (parts img from (omega arith) c.rest-rest.ensures, ← front, c.if-not-zeros.true)
+    rw (parts img from (omega arith) c.rest-rest.ensures, ← front, c.if-zeros.false)
 
-pub returns : goal.returns
-returns c =
+pub returns-then-zeros : goal.returns-then-zeros
+returns-then-zeros c =
     let img = c.args.image.now in
     let from : ℕ = c.rest-rest.result in
     let front : c.zeros.result ≡ zeros (take (510 - from) (drop from img)) = c.zeros.ensures in
-    rw (parts img from (omega arith) c.rest-rest.ensures, ← front, c.if-not-zeros.false) c.zeros-2.ensures
+    rw (parts img from (omega arith) c.rest-rest.ensures, ← front, c.if-zeros.true) c.zeros-then-zeros.ensures
 
 -- the fields of either edition end before the check word
 pub slice_bounds-zeros-count : goal.slice_bounds-zeros-count
