@@ -9,6 +9,7 @@ use native.Mathlib.Nat.{add-zero, pow-succ'}
 use lib.ListN.{length, take, drop, replicate, take-append-drop, length-append}
 use lib.Seq.{take_at, drop-append-add, drop-drop, length-take-le}
 use borrow.Author.Tests.{lt-ltb, le-ltb}
+use Rattle.std.proofs.lemmas.Bool.Decides.{nat_tests}
 use Rattle.text.specs.Texts.{glyph, hex, decimal_in, decimal, capacity, empty, appended, content}
 use Rattle.text.specs.declared.Text.{Text}
 
@@ -60,7 +61,13 @@ decimal_length (suc k) n h =
     (λ l. rw (decimal_long n l, length-append) (omega (arith, decimal_length k (n / 10) (omega (arith, h, pow-succ' 10 (suc k))))))
     (lt_or_le n 10)
 
--- a number of 64 bits
+-- numbers of 8, 16 and 64 bits
+pub decimal_8 : (n : ℕ) → n < 2 ^ 8 → length (decimal n) ≤ 3
+decimal_8 n h = decimal_length 2 n (omega arith)
+
+pub decimal_16 : (n : ℕ) → n < 2 ^ 16 → length (decimal n) ≤ 5
+decimal_16 n h = decimal_length 4 n (omega arith)
+
 pub decimal_64 : (n : ℕ) → n < 2 ^ 64 → length (decimal n) ≤ 20
 decimal_64 n h = decimal_length 19 n (omega arith)
 
@@ -91,3 +98,6 @@ content_of t = take_at t (drop (0 + length t) (replicate capacity 0)) (0 + lengt
 
 -- what a number's text is, one digit at a time, and how long
 pub ruleset digits = (decimal_short, decimal_long, short_length, long_length)
+
+-- a text after several pushes, whichever tests chose them
+pub ruleset pushes = (appended_twice, nothing_appended, append_assoc, nat_tests)

@@ -69,7 +69,7 @@ impl Text {
     }
 
     // Puts a number behind the text, in decimal.
-    #[tactic(auto, using(crate::proofs::Laws::digits, crate::proofs::Laws::appended_twice))]
+    #[tactic(auto, using(crate::proofs::Laws::digits, crate::proofs::Laws::pushes))]
     pub fn push_decimal(&mut self, n: usize)
         requires { Texts.Room self.old (length (Texts.decimal n)) }
         ensures value { self.new ≡ Texts.appended self.old (Texts.decimal n) }
