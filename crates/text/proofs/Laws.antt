@@ -91,7 +91,7 @@ pub nothing_appended : (x : Text) → appended x [] ≡ x
 unfolding appended
 nothing_appended x = rw (add-zero, append-nil (take x.length x.bytes), take-append-drop)
 
--- what a text of one piece alone holds
+-- what a text of one piece alone holds, and its length
 pub content_of : (t : List ℕ) → content (appended empty t) ≡ t
 unfolding empty appended content
 content_of t = take_at t (drop (0 + length t) (replicate capacity 0)) (0 + length t) (omega arith)
@@ -99,5 +99,9 @@ content_of t = take_at t (drop (0 + length t) (replicate capacity 0)) (0 + lengt
 -- what a number's text is, one digit at a time, and how long
 pub ruleset digits = (decimal_short, decimal_long, short_length, long_length)
 
+pub length_of : (t : List ℕ) → (appended empty t).length ≡ length t
+unfolding empty appended
+length_of t = omega arith
+
 -- a text after several pushes, whichever tests chose them
-pub ruleset pushes = (appended_twice, nothing_appended, append_assoc, nat_tests)
+pub ruleset pushes = (appended_twice, nothing_appended, append_assoc, append-nil, nat_tests)

@@ -33,7 +33,8 @@ impl Text {
     // No text yet.
     #[tactic(auto, unfolding(crate::specs::Texts::empty))]
     pub fn new() -> Self
-        ensures { result ≡ Texts.empty }
+        ensures value { result ≡ Texts.empty }
+        ensures room { Texts.Room result Texts.capacity }
     {
         Text {
             bytes: [0; CAPACITY],
@@ -85,7 +86,8 @@ impl Text {
     #[tactic(auto, unfolding(crate::specs::Texts::content))]
     pub fn as_bytes(&self) -> &[u8]
         requires { Texts.Held self.now }
-        ensures { result.now ≡ Texts.content self.now }
+        ensures value { result.now ≡ Texts.content self.now }
+        ensures len { length result.now ≡ self.now.length }
     {
         &self.bytes[..self.length]
     }
