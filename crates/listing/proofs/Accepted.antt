@@ -1,19 +1,27 @@
--- Where nothing is refused, each test was passed.
-use Rattle.std.specs.Prelude.{if◌then◌else◌}
-use Rattle.std.proofs.Common.{◌≡◌, ℕ, ◌≤◌, Bool, true, false, not, eqb, ltb, List, length, refl, arith, ltb-false, eqb-true}
+-- What a call does in each of its three cases.
+use Rattle.std.proofs.Common.{◌≡◌, ℕ, ◌<◌, ◌≤◌, ◌++◌, List, length, drop, refl, eq-eqb, ne_eqb, lt-ltb, le-ltb}
 use Rattle.memory.specs.Memory.{size}
-use Rattle.listing.specs.Listing.{list_refusal, least_buffer}
+use Rattle.listing.specs.Listing.{ListResult, list, list_refusal, least_buffer, line_at, word_count}
 
-size_right : (b : Bool) (n : ℕ) → (if not b then 1 else n) ≡ 0 → (b ≡ true) × (n ≡ 0)
-size_right true n h = (refl, h)
-size_right false n h = absurd (omega arith)
+abbrev pub refused : ℕ → List ℕ → ListResult
+refused n text = record { answer = record { number = n; length = 0; words = 0 }; text = text }
 
-long_enough : (b : Bool) → ◌≡◌ {A = ℕ} (if b then 11 else 0) 0 → b ≡ false
-long_enough true h = absurd (omega arith)
-long_enough false h = refl
+pub wrong_size : (m text : List ℕ) (a : ℕ) → ¬ (length m ≡ size) → list m a text ≡ refused 1 text
+unfolding list list_refusal
+wrong_size m text a h = rw (ne_eqb (length m) size h)
 
-pub accepted : (m text : List ℕ) → list_refusal m text ≡ 0 → (length m ≡ size) × (least_buffer ≤ length text)
-unfolding list_refusal
-accepted m text h =
-    let known = size_right (eqb (length m) size) (if ltb (length text) least_buffer then 11 else 0) h in
-    (eqb-true (length m) size known.0, ltb-false (length text) least_buffer (long_enough (ltb (length text) least_buffer) known.1))
+pub too_short : (m text : List ℕ) (a : ℕ) → length m ≡ size → length text < least_buffer → list m a text ≡ refused 11 text
+unfolding list list_refusal
+too_short m text a h k = rw (eq-eqb (length m) size h, lt-ltb (length text) least_buffer k)
+
+pub accepted :
+    (m text : List ℕ) (a : ℕ) → length m ≡ size → least_buffer ≤ length text
+    → list m a text
+    ≡ record {
+      answer = record { number = 0; length = length (line_at m a); words = word_count m a };
+      text = line_at m a ++ drop (length (line_at m a)) text;
+    }
+unfolding list list_refusal
+accepted m text a h k = rw (eq-eqb (length m) size h, le-ltb (length text) least_buffer k)
+
+pub ruleset cases = (wrong_size, too_short, accepted)

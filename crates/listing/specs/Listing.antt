@@ -1,5 +1,5 @@
 -- The listing: the line of the instruction at an address, and the call that writes it into a lent buffer.
-use Rattle.std.specs.Prelude.{ℕ, suc, ◌+◌, ◌*◌, ◌/◌, ◌%◌, not, List, [], ◌∷◌, ◌++◌, length, take, drop, ◌==◌, nat_lt, if◌then◌else◌}
+use Rattle.std.specs.Prelude.{ℕ, suc, ◌+◌, ◌*◌, ◌/◌, ◌%◌, not, List, [], ◌∷◌, ◌++◌, length, take, drop, ◌==◌, nat_lt, if◌then◌else◌, Result, Ok, Err}
 use Rattle.memory.specs.declared.Width.TheVariants.{Word}
 use Rattle.memory.specs.Memory.{size, loaded}
 use Rattle.isa.specs.Isa.{decoded, further_words}
@@ -9,7 +9,9 @@ use Rattle.notation.specs.declared.Notation.{Notation}
 use Rattle.notation.specs.Forms.{notation_of}
 use Rattle.mnemonics.specs.Spelling.{name}
 use Rattle.operand_text.specs.Kinds.{operands}
-use Rattle.listing.specs.declared.ListAnswer.{ListAnswer}
+use Rattle.refusals.specs.declared.Refusal.{Refusal}
+use Rattle.refusals.specs.Refusals as Refusals
+use Rattle.listing.specs.declared.Line.{Line}
 
 -- each of these words behind a space
 unfoldable pub spaced : List ℕ → List ℕ
@@ -55,6 +57,17 @@ list_refusal m text =
     if not (length m == size) then 1
     else if nat_lt (length text) least_buffer then 11
     else 0
+
+-- what is reported: the number of the refusal or 0, how many bytes the line has, and how many words its instruction takes
+pub record ListAnswer : Type 0 where
+  pub number : ℕ
+  pub length : ℕ
+  pub words : ℕ
+
+-- a call's outcome as that answer: zeros beside a refusal's number
+unfoldable pub list_answer : Result Line Refusal → ListAnswer
+list_answer (Ok l) = record { number = 0; length = l.length; words = l.words }
+list_answer (Err r) = record { number = Refusals.number r; length = 0; words = 0 }
 
 pub record ListResult : Type 0 where
   pub answer : ListAnswer

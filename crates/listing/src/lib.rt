@@ -1,149 +1,112 @@
 // The listing: one line of text for the instruction at an address.
 #![tactic(auto)]
 
-ghost use Rattle.std.specs.Prelude.{◌≡◌, ◌≤◌, [], ◌∷◌, length};
-ghost use Rattle.memory.specs.Memory.{Installed};
-ghost use Rattle.text.specs.Texts.{Room, appended, empty, hex};
+ghost use Rattle.std.specs.Prelude.{◌≤◌, ◌≡◌, [], ◌∷◌};
+ghost use Rattle.text.specs.Texts.{Grown, Held, Room, appended, empty};
 ghost use Rattle.listing.specs.Listing as Listing;
 
 use memory::Width;
 use notation::{Notation, Words};
-use std::num;
+use refusals::Refusal;
 use text::Text;
 
 // A buffer for a line has at least so many bytes.
 pub const LEAST_BUFFER: usize = 48;
 
-// The number of document 02, how many bytes the line has, and how many words its instruction takes.
-#[derive(Clone, Copy)]
-pub struct ListAnswer {
-    pub number: u16,
+// How many bytes a line has, and how many words its instruction takes.
+#[derive(Clone, Copy, Debug, PartialEq, Eq)]
+pub struct Line {
     pub length: usize,
     pub words: u16,
 }
 
-// A line, and how many words its instruction takes.
-#[derive(Clone, Copy)]
-struct Listed {
-    text: Text,
-    words: u16,
+// Puts a space and a word behind the text.
+#[tactic(auto, using(text::proofs::Laws::pushes), unfolding(text::specs::Texts::ascii, crate::specs::Listing::spaced))]
+fn push_spaced(text: &mut Text, word: u16)
+    requires { Room text.old 5 }
+    ensures value { text.new ≡ appended text.old (Listing.spaced (word ∷ [])) }
+    ensures grown { Grown text.old text.new 5 }
+{
+    text.push(b" ");
+    text.push_hex(word);
 }
 
-// Behind the text a space and a word.
-fn append_spaced(text: Text, word: u16) -> Text
-    requires { Room text 5 }
-    ensures { result ≡ appended text (Listing.spaced (word ∷ [])) }
+// Puts the words that an instruction takes behind the text.
+#[tactic(auto, using(text::proofs::Laws::pushes, crate::proofs::Pieces::spaced_more, crate::proofs::Pieces::used_all), unfolding(crate::specs::Listing::used))]
+fn push_used(text: &mut Text, further: u16, words: Words)
+    requires { Room text.old 15 }
+    ensures value { text.new ≡ appended text.old (Listing.spaced (Listing.used further words)) }
+    ensures grown { Grown text.old text.new 15 }
 {
-    text::append_hex(text::append(text, b" "), word)
-}
-
-// Behind the text the words that an instruction takes.
-fn append_used(text: Text, further: u16, words: Words) -> Text
-    requires { Room text 15 }
-    ensures { result ≡ appended text (Listing.spaced (Listing.used further words)) }
-{
-    let one = append_spaced(text, words.first);
-    if further == 0 {
-        return one;
+    push_spaced(text, words.first);
+    if further > 0 {
+        push_spaced(text, words.second);
     }
-    let two = append_spaced(one, words.second);
-    if further == 1 {
-        return two;
+    if further > 1 {
+        push_spaced(text, words.third);
     }
-    append_spaced(two, words.third)
 }
 
-// Behind the text mnemonic and operands.
-fn append_statement(text: Text, notation: Notation) -> Text
-    requires { Room text 34 }
-    ensures value { result ≡ appended text (Listing.statement notation) }
-    ensures notation_len_bound { length (Listing.statement notation) ≤ 34 }
+// Puts mnemonic and operands behind the text.
+#[tactic(auto, using(text::proofs::Laws::pushes, mnemonics::proofs::Lengths::name_short), unfolding(crate::specs::Listing::statement))]
+fn push_statement(text: &mut Text, notation: Notation)
+    requires { Room text.old 34 }
+    ensures value { text.new ≡ appended text.old (Listing.statement notation) }
+    ensures grown { Grown text.old text.new 34 }
 {
-    let mnemonic = notation.mnemonic;
-    let operands = notation.operands;
-    let named = text::append_text(text, mnemonics::name(mnemonic));
-    operand_text::append_operands(named, operands)
-}
-
-// An address alone.
-fn address_alone(address: u16) -> Text
-    ensures { result ≡ appended empty (hex address) }
-{
-    text::append_hex(text::empty(), address)
-}
-
-// A line: address, words and instruction.
-fn line(address: u16, words: Words, further: u16, notation: Notation) -> Text
-    ensures { result ≡ appended empty (Listing.line address (Listing.used further words) notation) }
-{
-    let used = append_used(address_alone(address), further, words);
-    let spaced = text::append(used, b" ");
-    append_statement(spaced, notation)
+    text.push(mnemonics::name(notation.mnemonic));
+    operand_text::push_operands(text, notation.operands);
 }
 
 // The three words from an address on.
-fn words_at(bytes: &[u8], address: u16) -> Words
-    requires { Installed bytes.now }
+#[tactic(auto, unfolding(crate::specs::Listing::words_at))]
+fn words_at(bytes: &[u8; memory::SIZE], address: u16) -> Words
     ensures { result ≡ Listing.words_at bytes.now address }
 {
     Words {
         first: memory::load(bytes, Width::Word, address),
-        second: memory::load(bytes, Width::Word, num::wrapping_add_u16(address, 2)),
-        third: memory::load(bytes, Width::Word, num::wrapping_add_u16(address, 4)),
+        second: memory::load(bytes, Width::Word, address.wrapping_add(2)),
+        third: memory::load(bytes, Width::Word, address.wrapping_add(4)),
     }
 }
 
-// The refusal that this memory and buffer call for, or 0.
-fn list_refusal(bytes: &[u8], text: &[u8]) -> u16
-    ensures { result ≡ Listing.list_refusal bytes.now text.now }
-{
-    if bytes.len() != memory::SIZE {
-        return 1;
-    }
-    if text.len() < LEAST_BUFFER {
-        return 11;
-    }
-    0
-}
-
-// The line of the instruction at an address, whose lowest bit is dropped.
-fn line_at(bytes: &[u8], address: u16) -> Listed
-    requires { Installed bytes.now }
-    ensures text_value { result.text ≡ appended empty (Listing.line_at bytes.now address) }
-    ensures words_value { result.words ≡ Listing.word_count bytes.now address }
+// The line of the instruction at an address, whose lowest bit is dropped, and how many words it takes.
+#[tactic(auto, using(text::proofs::Laws::pushes, text::proofs::Laws::length_of, crate::proofs::Longest::line_short, isa::proofs::Words::two_further_words), unfolding(text::specs::Texts::ascii, crate::specs::Listing::line_at, crate::specs::Listing::line_of, crate::specs::Listing::line, crate::specs::Listing::word_count))]
+fn line_at(bytes: &[u8; memory::SIZE], address: u16) -> (Text, u16)
+    ensures line_value { result.0 ≡ appended empty (Listing.line_at bytes.now address) }
+    ensures held { Held result.0 }
+    ensures fits { result.0.length ≤ Listing.least_buffer }
+    ensures words_value { result.1 ≡ Listing.word_count bytes.now address }
 {
     let at = address / 2 * 2;
     let words = words_at(bytes, at);
     let instruction = isa::decode(words.first);
     let further = isa::further_words(instruction);
-    let notation = notation::notation_of(at, words, instruction);
-    Listed {
-        text: line(at, words, further, notation),
-        words: further + 1,
-    }
+    let mut line = Text::new();
+    line.push_hex(at);
+    push_used(&mut line, further, words);
+    line.push(b" ");
+    push_statement(&mut line, notation::notation_of(at, words, instruction));
+    (line, further + 1)
 }
 
 // Writes the line of the instruction at an address into the lent buffer.
-pub fn list(bytes: &[u8], address: u16, text: &mut [u8]) -> ListAnswer
-    ensures value { result ≡ (Listing.list bytes.now address text.old).answer }
+#[tactic(auto, using(crate::proofs::Accepted::cases, text::proofs::Laws::content_of), unfolding(crate::specs::Listing::list_answer, refusals::specs::Refusals::number))]
+pub fn list(bytes: &[u8], address: u16, text: &mut [u8]) -> Result<Line, Refusal>
+    ensures value { Listing.list_answer result ≡ (Listing.list bytes.now address text.old).answer }
     ensures text_after { text.new ≡ (Listing.list bytes.now address text.old).text }
 {
-    let refusal = list_refusal(bytes, &text[..]);
-    if refusal != 0 {
-        return ListAnswer {
-            number: refusal,
-            length: 0,
-            words: 0,
-        };
+    let Some(memory) = bytes.as_array() else {
+        return Err(Refusal::MemorySize);
+    };
+    if text.len() < LEAST_BUFFER {
+        return Err(Refusal::TextBuffer);
     }
-    let listed = line_at(bytes, address);
-    let line = listed.text;
-    let letters = line.bytes;
-    let length = line.length;
-    text[..length].copy_from_slice(&letters[..length]);
-    ListAnswer {
-        number: 0,
-        length,
-        words: listed.words,
-    }
+    let (line, words) = line_at(memory, address);
+    let line = line.as_bytes();
+    text[..line.len()].copy_from_slice(line);
+    Ok(Line {
+        length: line.len(),
+        words,
+    })
 }

@@ -2,7 +2,7 @@
 #![tactic(auto)]
 
 ghost use Rattle.std.specs.Prelude.{◌≡◌};
-ghost use Rattle.text.specs.Texts.{ascii, appended, empty};
+ghost use Rattle.text.specs.Texts.{ascii};
 ghost use Rattle.mnemonics.specs.Spelling as Spelling;
 
 use isa::{
@@ -10,167 +10,167 @@ use isa::{
 };
 use memory::Width;
 use notation::Mnemonic;
-use text::Text;
 
 // A dual form of words or of bytes.
-fn dual_name(op: DualOp, width: Width) -> Text
-    ensures { result ≡ appended empty (ascii (Spelling.dual_name op width)) }
+fn dual_name(op: DualOp, width: Width) -> &'static [u8]
+    ensures { result.now ≡ ascii (Spelling.dual_name op width) }
 {
     match width {
         Width::Word => match op {
-            DualOp::Szc => text::of(b"SZC"),
-            DualOp::S => text::of(b"S"),
-            DualOp::C => text::of(b"C"),
-            DualOp::A => text::of(b"A"),
-            DualOp::Mov => text::of(b"MOV"),
-            DualOp::Soc => text::of(b"SOC"),
+            DualOp::Szc => b"SZC",
+            DualOp::S => b"S",
+            DualOp::C => b"C",
+            DualOp::A => b"A",
+            DualOp::Mov => b"MOV",
+            DualOp::Soc => b"SOC",
         },
         Width::Byte => match op {
-            DualOp::Szc => text::of(b"SZCB"),
-            DualOp::S => text::of(b"SB"),
-            DualOp::C => text::of(b"CB"),
-            DualOp::A => text::of(b"AB"),
-            DualOp::Mov => text::of(b"MOVB"),
-            DualOp::Soc => text::of(b"SOCB"),
+            DualOp::Szc => b"SZCB",
+            DualOp::S => b"SB",
+            DualOp::C => b"CB",
+            DualOp::A => b"AB",
+            DualOp::Mov => b"MOVB",
+            DualOp::Soc => b"SOCB",
         },
     }
 }
 
 // A form with a general operand and a register.
-fn register_name(op: RegisterOp) -> Text
-    ensures { result ≡ appended empty (ascii (Spelling.register_name op)) }
+fn register_name(op: RegisterOp) -> &'static [u8]
+    ensures { result.now ≡ ascii (Spelling.register_name op) }
 {
     match op {
-        RegisterOp::Coc => text::of(b"COC"),
-        RegisterOp::Czc => text::of(b"CZC"),
-        RegisterOp::Xor => text::of(b"XOR"),
-        RegisterOp::Mpy => text::of(b"MPY"),
-        RegisterOp::Div => text::of(b"DIV"),
+        RegisterOp::Coc => b"COC",
+        RegisterOp::Czc => b"CZC",
+        RegisterOp::Xor => b"XOR",
+        RegisterOp::Mpy => b"MPY",
+        RegisterOp::Div => b"DIV",
     }
 }
 
 // A transfer of several CRU bits.
-fn transfer_name(op: TransferOp) -> Text
-    ensures { result ≡ appended empty (ascii (Spelling.transfer_name op)) }
+fn transfer_name(op: TransferOp) -> &'static [u8]
+    ensures { result.now ≡ ascii (Spelling.transfer_name op) }
 {
     match op {
-        TransferOp::Ldcr => text::of(b"LDCR"),
-        TransferOp::Stcr => text::of(b"STCR"),
+        TransferOp::Ldcr => b"LDCR",
+        TransferOp::Stcr => b"STCR",
     }
 }
 
 // An access to one CRU bit.
-fn bit_name(op: BitOp) -> Text
-    ensures { result ≡ appended empty (ascii (Spelling.bit_name op)) }
+fn bit_name(op: BitOp) -> &'static [u8]
+    ensures { result.now ≡ ascii (Spelling.bit_name op) }
 {
     match op {
-        BitOp::Sbo => text::of(b"SBO"),
-        BitOp::Sbz => text::of(b"SBZ"),
-        BitOp::Tb => text::of(b"TB"),
+        BitOp::Sbo => b"SBO",
+        BitOp::Sbz => b"SBZ",
+        BitOp::Tb => b"TB",
     }
 }
 
 // A jump.
-fn jump_name(op: JumpOp) -> Text
-    ensures { result ≡ appended empty (ascii (Spelling.jump_name op)) }
+fn jump_name(op: JumpOp) -> &'static [u8]
+    ensures { result.now ≡ ascii (Spelling.jump_name op) }
 {
     match op {
-        JumpOp::Jmp => text::of(b"JMP"),
-        JumpOp::Jlt => text::of(b"JLT"),
-        JumpOp::Jle => text::of(b"JLE"),
-        JumpOp::Jeq => text::of(b"JEQ"),
-        JumpOp::Jhe => text::of(b"JHE"),
-        JumpOp::Jgt => text::of(b"JGT"),
-        JumpOp::Jne => text::of(b"JNE"),
-        JumpOp::Jnc => text::of(b"JNC"),
-        JumpOp::Joc => text::of(b"JOC"),
-        JumpOp::Jno => text::of(b"JNO"),
-        JumpOp::Jl => text::of(b"JL"),
-        JumpOp::Jh => text::of(b"JH"),
-        JumpOp::Jop => text::of(b"JOP"),
+        JumpOp::Jmp => b"JMP",
+        JumpOp::Jlt => b"JLT",
+        JumpOp::Jle => b"JLE",
+        JumpOp::Jeq => b"JEQ",
+        JumpOp::Jhe => b"JHE",
+        JumpOp::Jgt => b"JGT",
+        JumpOp::Jne => b"JNE",
+        JumpOp::Jnc => b"JNC",
+        JumpOp::Joc => b"JOC",
+        JumpOp::Jno => b"JNO",
+        JumpOp::Jl => b"JL",
+        JumpOp::Jh => b"JH",
+        JumpOp::Jop => b"JOP",
     }
 }
 
 // A shift.
-fn shift_name(op: ShiftOp) -> Text
-    ensures { result ≡ appended empty (ascii (Spelling.shift_name op)) }
+fn shift_name(op: ShiftOp) -> &'static [u8]
+    ensures { result.now ≡ ascii (Spelling.shift_name op) }
 {
     match op {
-        ShiftOp::Sra => text::of(b"SRA"),
-        ShiftOp::Srl => text::of(b"SRL"),
-        ShiftOp::Sla => text::of(b"SLA"),
-        ShiftOp::Src => text::of(b"SRC"),
+        ShiftOp::Sra => b"SRA",
+        ShiftOp::Srl => b"SRL",
+        ShiftOp::Sla => b"SLA",
+        ShiftOp::Src => b"SRC",
     }
 }
 
 // A form with one general operand.
-fn single_name(op: SingleOp) -> Text
-    ensures { result ≡ appended empty (ascii (Spelling.single_name op)) }
+fn single_name(op: SingleOp) -> &'static [u8]
+    ensures { result.now ≡ ascii (Spelling.single_name op) }
 {
     match op {
-        SingleOp::B => text::of(b"B"),
-        SingleOp::Clr => text::of(b"CLR"),
-        SingleOp::Neg => text::of(b"NEG"),
-        SingleOp::Inv => text::of(b"INV"),
-        SingleOp::Inc => text::of(b"INC"),
-        SingleOp::Inct => text::of(b"INCT"),
-        SingleOp::Dec => text::of(b"DEC"),
-        SingleOp::Dect => text::of(b"DECT"),
-        SingleOp::Bl => text::of(b"BL"),
-        SingleOp::Swpb => text::of(b"SWPB"),
-        SingleOp::Seto => text::of(b"SETO"),
-        SingleOp::Abs => text::of(b"ABS"),
+        SingleOp::B => b"B",
+        SingleOp::Clr => b"CLR",
+        SingleOp::Neg => b"NEG",
+        SingleOp::Inv => b"INV",
+        SingleOp::Inc => b"INC",
+        SingleOp::Inct => b"INCT",
+        SingleOp::Dec => b"DEC",
+        SingleOp::Dect => b"DECT",
+        SingleOp::Bl => b"BL",
+        SingleOp::Swpb => b"SWPB",
+        SingleOp::Seto => b"SETO",
+        SingleOp::Abs => b"ABS",
     }
 }
 
 // A form with a register and an immediate word.
-fn immediate_name(op: ImmediateOp) -> Text
-    ensures { result ≡ appended empty (ascii (Spelling.immediate_name op)) }
+fn immediate_name(op: ImmediateOp) -> &'static [u8]
+    ensures { result.now ≡ ascii (Spelling.immediate_name op) }
 {
     match op {
-        ImmediateOp::Li => text::of(b"LI"),
-        ImmediateOp::Ai => text::of(b"AI"),
-        ImmediateOp::Andi => text::of(b"ANDI"),
-        ImmediateOp::Ori => text::of(b"ORI"),
-        ImmediateOp::Ci => text::of(b"CI"),
+        ImmediateOp::Li => b"LI",
+        ImmediateOp::Ai => b"AI",
+        ImmediateOp::Andi => b"ANDI",
+        ImmediateOp::Ori => b"ORI",
+        ImmediateOp::Ci => b"CI",
     }
 }
 
 // A form with no operand.
-fn control_name(op: ControlOp) -> Text
-    ensures { result ≡ appended empty (ascii (Spelling.control_name op)) }
+fn control_name(op: ControlOp) -> &'static [u8]
+    ensures { result.now ≡ ascii (Spelling.control_name op) }
 {
     match op {
-        ControlOp::Idle => text::of(b"IDLE"),
-        ControlOp::Rset => text::of(b"RSET"),
-        ControlOp::Rtwp => text::of(b"RTWP"),
-        ControlOp::Ckon => text::of(b"CKON"),
-        ControlOp::Ckof => text::of(b"CKOF"),
-        ControlOp::Lrex => text::of(b"LREX"),
+        ControlOp::Idle => b"IDLE",
+        ControlOp::Rset => b"RSET",
+        ControlOp::Rtwp => b"RTWP",
+        ControlOp::Ckon => b"CKON",
+        ControlOp::Ckof => b"CKOF",
+        ControlOp::Lrex => b"LREX",
     }
 }
 
 // The letters of a mnemonic.
-pub fn name(mnemonic: Mnemonic) -> Text
-    ensures { result ≡ appended empty (ascii (Spelling.name mnemonic)) }
+#[tactic(auto, unfolding(crate::specs::Spelling::name))]
+pub fn name(mnemonic: Mnemonic) -> &'static [u8]
+    ensures { result.now ≡ ascii (Spelling.name mnemonic) }
 {
     match mnemonic {
         Mnemonic::Dual { op, width } => dual_name(op, width),
-        Mnemonic::Register { op } => register_name(op),
-        Mnemonic::Xop => text::of(b"XOP"),
-        Mnemonic::Transfer { op } => transfer_name(op),
-        Mnemonic::Bit { op } => bit_name(op),
-        Mnemonic::Jump { op } => jump_name(op),
-        Mnemonic::Shift { op } => shift_name(op),
-        Mnemonic::Single { op } => single_name(op),
-        Mnemonic::Blwp => text::of(b"BLWP"),
-        Mnemonic::X => text::of(b"X"),
-        Mnemonic::Immediate { op } => immediate_name(op),
-        Mnemonic::Stwp => text::of(b"STWP"),
-        Mnemonic::Stst => text::of(b"STST"),
-        Mnemonic::Lwpi => text::of(b"LWPI"),
-        Mnemonic::Limi => text::of(b"LIMI"),
-        Mnemonic::Control { op } => control_name(op),
-        Mnemonic::Data => text::of(b"DATA"),
+        Mnemonic::Register(op) => register_name(op),
+        Mnemonic::Xop => b"XOP",
+        Mnemonic::Transfer(op) => transfer_name(op),
+        Mnemonic::Bit(op) => bit_name(op),
+        Mnemonic::Jump(op) => jump_name(op),
+        Mnemonic::Shift(op) => shift_name(op),
+        Mnemonic::Single(op) => single_name(op),
+        Mnemonic::Blwp => b"BLWP",
+        Mnemonic::X => b"X",
+        Mnemonic::Immediate(op) => immediate_name(op),
+        Mnemonic::Stwp => b"STWP",
+        Mnemonic::Stst => b"STST",
+        Mnemonic::Lwpi => b"LWPI",
+        Mnemonic::Limi => b"LIMI",
+        Mnemonic::Control(op) => control_name(op),
+        Mnemonic::Data => b"DATA",
     }
 }

@@ -9,27 +9,26 @@ use isa::{
     SingleOp, TransferOp,
 };
 use memory::Width;
-use std::num;
 
 // The mnemonics, by the instructions' forms, with the operation where a form has several.
 #[derive(Clone, Copy)]
 pub enum Mnemonic {
     Dual { op: DualOp, width: Width },
-    Register { op: RegisterOp },
+    Register(RegisterOp),
     Xop,
-    Transfer { op: TransferOp },
-    Bit { op: BitOp },
-    Jump { op: JumpOp },
-    Shift { op: ShiftOp },
-    Single { op: SingleOp },
+    Transfer(TransferOp),
+    Bit(BitOp),
+    Jump(JumpOp),
+    Shift(ShiftOp),
+    Single(SingleOp),
     Blwp,
     X,
-    Immediate { op: ImmediateOp },
+    Immediate(ImmediateOp),
     Stwp,
     Stst,
     Lwpi,
     Limi,
-    Control { op: ControlOp },
+    Control(ControlOp),
     // An unassigned word.
     Data,
 }
@@ -37,25 +36,27 @@ pub enum Mnemonic {
 // An operand as it is written, of one of seven kinds.
 #[derive(Clone, Copy)]
 pub enum Written {
-    // A general operand with its further word, or 0 where it has none.
+    // A general operand; whether it has a further word its mode says, and `word` is 0 where it has none.
+    // (`Forms.general` and `Kinds.general` take the word as a number, so it is no Option.)
     General { operand: Operand, word: u16 },
-    Register { register: u16 },
+    Register(u16),
     // A count as coded, 0 to 15.
-    Count { count: u16 },
-    XopNumber { number: u16 },
+    Count(u16),
+    XopNumber(u16),
     // A signed byte: from 80h on it is 100h less.
-    CruDisplacement { displacement: u8 },
+    CruDisplacement(u8),
     // Where a jump goes.
-    Target { address: u16 },
-    Word { word: u16 },
+    Target(u16),
+    Word(u16),
 }
 
 // The operands, in order.
+// (Not an Option or a slice: there may be two, and no more.)
 #[derive(Clone, Copy)]
 pub enum Operands {
     None,
-    One { only: Written },
-    Two { first: Written, second: Written },
+    One(Written),
+    Two(Written, Written),
 }
 
 #[derive(Clone, Copy)]
@@ -73,122 +74,100 @@ pub struct Words {
 }
 
 // A general operand; `next` stands where its further word would be.
+#[tactic(auto, using(std::proofs::lemmas::Bool::Decides::nat_tests), unfolding(crate::specs::Forms::general))]
 fn general(operand: Operand, next: u16) -> Written
     ensures { result ≡ Forms.general operand next }
 {
-    if isa::operand_words(operand) == 1 {
-        return Written::General {
-            operand,
-            word: next,
-        };
-    }
-    Written::General { operand, word: 0 }
+    let word = if isa::operand_words(operand) == 1 {
+        next
+    } else {
+        0
+    };
+    Written::General { operand, word }
 }
 
 // The word that stands where a destination's further word would be.
+#[tactic(auto, using(std::proofs::lemmas::Bool::Decides::nat_tests), unfolding(crate::specs::Forms::behind))]
 fn behind(source: Operand, words: Words) -> u16
     ensures { result ≡ Forms.behind source words }
 {
     if isa::operand_words(source) == 1 {
-        return words.third;
-    }
-    words.second
-}
-
-// A mnemonic with one operand.
-fn with_one(mnemonic: Mnemonic, only: Written) -> Notation
-    ensures { result ≡ Forms.with_one mnemonic only }
-{
-    Notation {
-        mnemonic,
-        operands: Operands::One { only },
-    }
-}
-
-// A mnemonic with two operands.
-fn with_two(mnemonic: Mnemonic, first: Written, second: Written) -> Notation
-    ensures { result ≡ Forms.with_two mnemonic first second }
-{
-    Notation {
-        mnemonic,
-        operands: Operands::Two { first, second },
+        words.third
+    } else {
+        words.second
     }
 }
 
 // An instruction at an address, with the three words from there on.
+#[tactic(auto, unfolding(crate::specs::Forms::notation_of))]
 pub fn notation_of(address: u16, words: Words, instruction: Instruction) -> Notation
     ensures { result ≡ Forms.notation_of address words instruction }
 {
     let next = words.second;
-    match instruction {
+    let (mnemonic, operands) = match instruction {
         Instruction::Dual {
             op,
             source,
             destination,
             width,
-        } => with_two(
+        } => (
             Mnemonic::Dual { op, width },
-            general(source, next),
-            general(destination, behind(source, words)),
+            Operands::Two(
+                general(source, next),
+                general(destination, behind(source, words)),
+            ),
         ),
         Instruction::Register {
             op,
             source,
             register,
-        } => with_two(
-            Mnemonic::Register { op },
-            general(source, next),
-            Written::Register { register },
+        } => (
+            Mnemonic::Register(op),
+            Operands::Two(general(source, next), Written::Register(register)),
         ),
-        Instruction::Xop { source, number } => with_two(
+        Instruction::Xop { source, number } => (
             Mnemonic::Xop,
-            general(source, next),
-            Written::XopNumber { number },
+            Operands::Two(general(source, next), Written::XopNumber(number)),
         ),
-        Instruction::Transfer { op, operand, count } => with_two(
-            Mnemonic::Transfer { op },
-            general(operand, next),
-            Written::Count { count },
+        Instruction::Transfer { op, operand, count } => (
+            Mnemonic::Transfer(op),
+            Operands::Two(general(operand, next), Written::Count(count)),
         ),
-        Instruction::Bit { op, displacement } => with_one(
-            Mnemonic::Bit { op },
-            Written::CruDisplacement {
-                displacement: (displacement % 256) as u8,
-            },
+        Instruction::Bit { op, displacement } => (
+            Mnemonic::Bit(op),
+            Operands::One(Written::CruDisplacement((displacement % 256) as u8)),
         ),
-        Instruction::Jump { op, displacement } => with_one(
-            Mnemonic::Jump { op },
-            Written::Target {
-                address: isa::target(num::wrapping_add_u16(address, 2), displacement),
-            },
+        Instruction::Jump { op, displacement } => (
+            Mnemonic::Jump(op),
+            Operands::One(Written::Target(isa::target(address.wrapping_add(2), displacement))),
         ),
         Instruction::Shift {
             op,
             register,
             count,
-        } => with_two(
-            Mnemonic::Shift { op },
-            Written::Register { register },
-            Written::Count { count },
+        } => (
+            Mnemonic::Shift(op),
+            Operands::Two(Written::Register(register), Written::Count(count)),
         ),
         Instruction::Single { op, operand } => {
-            with_one(Mnemonic::Single { op }, general(operand, next))
+            (Mnemonic::Single(op), Operands::One(general(operand, next)))
         }
-        Instruction::Blwp { operand } => with_one(Mnemonic::Blwp, general(operand, next)),
-        Instruction::X { operand } => with_one(Mnemonic::X, general(operand, next)),
-        Instruction::Immediate { op, register } => with_two(
-            Mnemonic::Immediate { op },
-            Written::Register { register },
-            Written::Word { word: next },
+        Instruction::Blwp { operand } => (Mnemonic::Blwp, Operands::One(general(operand, next))),
+        Instruction::X { operand } => (Mnemonic::X, Operands::One(general(operand, next))),
+        Instruction::Immediate { op, register } => (
+            Mnemonic::Immediate(op),
+            Operands::Two(Written::Register(register), Written::Word(next)),
         ),
-        Instruction::Stwp { register } => with_one(Mnemonic::Stwp, Written::Register { register }),
-        Instruction::Stst { register } => with_one(Mnemonic::Stst, Written::Register { register }),
-        Instruction::Lwpi => with_one(Mnemonic::Lwpi, Written::Word { word: next }),
-        Instruction::Limi => with_one(Mnemonic::Limi, Written::Word { word: next }),
-        Instruction::Control { op } => Notation {
-            mnemonic: Mnemonic::Control { op },
-            operands: Operands::None,
-        },
-        Instruction::Unassigned => { with_one(Mnemonic::Data, Written::Word { word: words.first }) }
-    }
+        Instruction::Stwp { register } => {
+            (Mnemonic::Stwp, Operands::One(Written::Register(register)))
+        }
+        Instruction::Stst { register } => {
+            (Mnemonic::Stst, Operands::One(Written::Register(register)))
+        }
+        Instruction::Lwpi => (Mnemonic::Lwpi, Operands::One(Written::Word(next))),
+        Instruction::Limi => (Mnemonic::Limi, Operands::One(Written::Word(next))),
+        Instruction::Control { op } => (Mnemonic::Control(op), Operands::None),
+        Instruction::Unassigned => (Mnemonic::Data, Operands::One(Written::Word(words.first))),
+    };
+    Notation { mnemonic, operands }
 }

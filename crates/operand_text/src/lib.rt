@@ -2,109 +2,135 @@
 // operand is then `@>FFFF(R65535)`, of 14 bytes, and two of them behind a space and a comma have 30.
 #![tactic(auto)]
 
-ghost use Rattle.std.specs.Prelude.{◌≤◌, ◌≡◌, length};
-ghost use Rattle.text.specs.Texts.{Room, appended, decimal};
+ghost use Rattle.std.specs.Prelude.{◌≡◌};
+ghost use Rattle.text.specs.Texts.{Grown, Room, appended, decimal};
 ghost use Rattle.operand_text.specs.Kinds as Kinds;
 
 use isa::Operand;
 use notation::{Operands, Written};
 use text::Text;
 
-// Behind the text a number in decimal.
-fn append_number(text: Text, number: u16) -> Text
-    requires { Room text 5 }
-    ensures value { result ≡ appended text (decimal number) }
-    ensures number_len_bound { length (decimal number) ≤ 5 }
+// Puts a number behind the text, in decimal.
+#[tactic(auto, using(text::proofs::Laws::decimal_16))]
+fn push_number(text: &mut Text, number: u16)
+    requires { Room text.old 5 }
+    ensures value { text.new ≡ appended text.old (decimal number) }
+    ensures grown { Grown text.old text.new 5 }
 {
-    text::append_decimal(text, number as usize)
+    text.push_decimal(number as usize);
 }
 
-// Behind the text a register.
-fn append_register(text: Text, register: u16) -> Text
-    requires { Room text 6 }
-    ensures value { result ≡ appended text (Kinds.register register) }
-    ensures register_len_bound { length (Kinds.register register) ≤ 6 }
+// Puts a register behind the text.
+#[tactic(auto, using(text::proofs::Laws::pushes), unfolding(text::specs::Texts::ascii, crate::specs::Kinds::register))]
+fn push_register(text: &mut Text, register: u16)
+    requires { Room text.old 6 }
+    ensures value { text.new ≡ appended text.old (Kinds.register register) }
+    ensures grown { Grown text.old text.new 6 }
 {
-    append_number(text::append(text, b"R"), register)
+    text.push(b"R");
+    push_number(text, register);
 }
 
-// Behind the text a word or an address.
-fn append_word(text: Text, word: u16) -> Text
-    requires { Room text 5 }
-    ensures { result ≡ appended text (Kinds.word word) }
+// Puts a word or an address behind the text.
+#[tactic(auto, using(text::proofs::Laws::pushes), unfolding(text::specs::Texts::ascii, crate::specs::Kinds::word))]
+fn push_word(text: &mut Text, word: u16)
+    requires { Room text.old 5 }
+    ensures value { text.new ≡ appended text.old (Kinds.word word) }
+    ensures grown { Grown text.old text.new 5 }
 {
-    text::append_hex(text::append(text, b">"), word)
+    text.push(b">");
+    text.push_hex(word);
 }
 
-// Behind the text an index register; register 0 is none.
-fn append_index(text: Text, register: u16) -> Text
-    requires { Room text 8 }
-    ensures value { result ≡ appended text (Kinds.index register) }
-    ensures register_len_bound { length (Kinds.index register) ≤ 8 }
+// Puts an index register behind the text; register 0 is none.
+#[tactic(auto, using(text::proofs::Laws::pushes), unfolding(text::specs::Texts::ascii, crate::specs::Kinds::index))]
+fn push_index(text: &mut Text, register: u16)
+    requires { Room text.old 8 }
+    ensures value { text.new ≡ appended text.old (Kinds.index register) }
+    ensures grown { Grown text.old text.new 8 }
 {
-    if register == 0 {
-        return text;
-    }
-    text::append(append_register(text::append(text, b"("), register), b")")
-}
-
-// Behind the text a general operand, with its further word where it has one.
-fn append_general(text: Text, operand: Operand, word: u16) -> Text
-    requires { Room text 14 }
-    ensures value { result ≡ appended text (Kinds.general operand word) }
-    ensures word_len_bound { length (Kinds.general operand word) ≤ 14 }
-{
-    let mode = operand.mode;
-    let register = operand.register;
-    match mode {
-        0 => append_register(text, register),
-        1 => append_register(text::append(text, b"*"), register),
-        2 => append_index(append_word(text::append(text, b"@"), word), register),
-        _ => text::append(append_register(text::append(text, b"*"), register), b"+"),
+    if register != 0 {
+        text.push(b"(");
+        push_register(text, register);
+        text.push(b")");
     }
 }
 
-// Behind the text a CRU displacement, which is signed.
-fn append_displacement(text: Text, displacement: u8) -> Text
-    requires { Room text 4 }
-    ensures value { result ≡ appended text (Kinds.displacement displacement) }
-    ensures displacement_len_bound { length (Kinds.displacement displacement) ≤ 4 }
+// Puts a general operand behind the text, with its further word where it has one.
+#[tactic(auto, using(text::proofs::Laws::pushes), unfolding(text::specs::Texts::ascii, crate::specs::Kinds::general))]
+fn push_general(text: &mut Text, operand: Operand, word: u16)
+    requires { Room text.old 14 }
+    ensures value { text.new ≡ appended text.old (Kinds.general operand word) }
+    ensures grown { Grown text.old text.new 14 }
+{
+    match operand.mode {
+        0 => push_register(text, operand.register),
+        1 => {
+            text.push(b"*");
+            push_register(text, operand.register);
+        }
+        2 => {
+            text.push(b"@");
+            push_word(text, word);
+            push_index(text, operand.register);
+        }
+        _ => {
+            text.push(b"*");
+            push_register(text, operand.register);
+            text.push(b"+");
+        }
+    }
+}
+
+// Puts a CRU displacement, which is signed, behind the text.
+#[tactic(auto, using(text::proofs::Laws::pushes, text::proofs::Laws::decimal_8), unfolding(text::specs::Texts::ascii, crate::specs::Kinds::displacement))]
+fn push_displacement(text: &mut Text, displacement: u8)
+    requires { Room text.old 4 }
+    ensures value { text.new ≡ appended text.old (Kinds.displacement displacement) }
+    ensures grown { Grown text.old text.new 4 }
 {
     if displacement < 0x80 {
-        return text::append_decimal(text, displacement as usize);
+        text.push_decimal(displacement as usize);
+    } else {
+        text.push(b"-");
+        text.push_decimal(0x100 - displacement as usize);
     }
-    text::append_decimal(text::append(text, b"-"), 0x100 - displacement as usize)
 }
 
-// Behind the text an operand.
-fn append_written(text: Text, operand: Written) -> Text
-    requires { Room text 14 }
-    ensures value { result ≡ appended text (Kinds.written operand) }
-    ensures operand_len_bound { length (Kinds.written operand) ≤ 14 }
+// Puts an operand behind the text.
+#[tactic(auto, unfolding(crate::specs::Kinds::written))]
+fn push_written(text: &mut Text, operand: Written)
+    requires { Room text.old 14 }
+    ensures value { text.new ≡ appended text.old (Kinds.written operand) }
+    ensures grown { Grown text.old text.new 14 }
 {
     match operand {
-        Written::General { operand, word } => append_general(text, operand, word),
-        Written::Register { register } => append_register(text, register),
-        Written::Count { count } => append_number(text, count),
-        Written::XopNumber { number } => append_number(text, number),
-        Written::CruDisplacement { displacement } => append_displacement(text, displacement),
-        Written::Target { address } => append_word(text, address),
-        Written::Word { word } => append_word(text, word),
+        Written::General { operand, word } => push_general(text, operand, word),
+        Written::Register(register) => push_register(text, register),
+        Written::Count(number) | Written::XopNumber(number) => push_number(text, number),
+        Written::CruDisplacement(displacement) => push_displacement(text, displacement),
+        Written::Target(word) | Written::Word(word) => push_word(text, word),
     }
 }
 
-// Behind a mnemonic its operands.
-pub fn append_operands(text: Text, operands: Operands) -> Text
-    requires { Room text 30 }
-    ensures value { result ≡ appended text (Kinds.operands operands) }
-    ensures operands_len_bound { length (Kinds.operands operands) ≤ 30 }
+// Puts operands behind a mnemonic.
+#[tactic(auto, using(text::proofs::Laws::pushes), unfolding(text::specs::Texts::ascii, crate::specs::Kinds::operands))]
+pub fn push_operands(text: &mut Text, operands: Operands)
+    requires { Room text.old 30 }
+    ensures value { text.new ≡ appended text.old (Kinds.operands operands) }
+    ensures grown { Grown text.old text.new 30 }
 {
     match operands {
-        Operands::None => text,
-        Operands::One { only } => append_written(text::append(text, b" "), only),
-        Operands::Two { first, second } => append_written(
-            text::append(append_written(text::append(text, b" "), first), b","),
-            second,
-        ),
+        Operands::None => {}
+        Operands::One(only) => {
+            text.push(b" ");
+            push_written(text, only);
+        }
+        Operands::Two(first, second) => {
+            text.push(b" ");
+            push_written(text, first);
+            text.push(b",");
+            push_written(text, second);
+        }
     }
 }

@@ -1,77 +1,89 @@
 // The line that the program prints.
-ghost use Rattle.std.specs.Prelude.{◌+◌, ◌≤◌, ◌≡◌, ◌++◌, length};
+ghost use Rattle.std.specs.Prelude.{◌+◌, ◌≡◌, ◌++◌, length};
 ghost use Rattle.io.specs.Counts.{IsPrefixLen};
-ghost use Rattle.text.specs.Texts as Texts;
+ghost use Rattle.text.specs.Texts.{Grown, Room, appended, decimal, empty, hex};
 ghost use Rattle.replay_files.specs.Line as Line;
 
-use machine::StepAnswer;
+use machine::{Ran, State, StepAnswer};
 use text::Text;
 
-// The text with a label and a count, of at most 20 digits, behind it.
-fn append_count(text: Text, label: &[u8], n: usize) -> Text
-    requires { Texts.Room text (length label.now + 20) }
-    ensures { result ≡ Texts.appended text (label.now ++ Texts.decimal n) }
+// Puts a label and a count, of at most 20 digits, behind the text.
+#[tactic(auto, using(text::proofs::Laws::pushes, text::proofs::Laws::decimal_64))]
+fn push_count(text: &mut Text, label: &[u8], n: usize)
+    requires { Room text.old (length label.now + 20) }
+    ensures value { text.new ≡ appended text.old (label.now ++ decimal n) }
+    ensures grown { Grown text.old text.new (length label.now + 20) }
 {
-    text::append_decimal(text::append(text, label), n)
+    text.push(label);
+    text.push_decimal(n);
 }
 
-// The text with a label and a register behind it.
-fn append_register(text: Text, label: &[u8], x: u16) -> Text
-    requires { Texts.Room text (length label.now + 4) }
-    ensures { result ≡ Texts.appended text (label.now ++ Texts.hex x) }
+// Puts a label and a register behind the text.
+#[tactic(auto, using(text::proofs::Laws::pushes))]
+fn push_register(text: &mut Text, label: &[u8], x: u16)
+    requires { Room text.old (length label.now + 4) }
+    ensures value { text.new ≡ appended text.old (label.now ++ hex x) }
+    ensures grown { Grown text.old text.new (length label.now + 4) }
 {
-    text::append_hex(text::append(text, label), x)
+    text.push(label);
+    text.push_hex(x);
 }
 
-// The line's first half: an answer's number and counts.
-fn counts(number: u16, steps: usize, unassigned: usize) -> Text
-    ensures { result ≡ Texts.appended Texts.empty (Line.counts number steps unassigned) }
-{
-    let numbered = append_count(text::empty(), b"answer ", number as usize);
-    let stepped = append_count(numbered, b" steps ", steps);
-    append_count(stepped, b" unassigned ", unassigned)
-}
-
-// The text with the line's second half behind it: the registers.
-fn registers(text: Text, pc: u16, wp: u16, st: u16) -> Text
-    requires { Texts.Room text (length (Line.registers pc wp st)) }
-    ensures { result ≡ Texts.appended text (Line.registers pc wp st) }
-{
-    let at_pc = append_register(text, b" pc ", pc);
-    let at_wp = append_register(at_pc, b" wp ", wp);
-    append_register(at_wp, b" st ", st)
-}
-
-// The text with the word for the last step's answer behind it; a level has at most 5 digits.
-fn append_word(text: Text, last: StepAnswer) -> Text
-    requires { Texts.Room text 11 }
-    ensures value { result ≡ Texts.appended text (Line.word last) }
-    ensures last_len_bound { length (Line.word last) ≤ 11 }
+// Puts the word for the last step's answer behind the text; a level has at most 5 digits.
+#[tactic(auto, using(text::proofs::Laws::pushes, text::proofs::Laws::decimal_16), unfolding(text::specs::Texts::ascii, crate::specs::Line::word))]
+fn push_word(text: &mut Text, last: StepAnswer)
+    requires { Room text.old 11 }
+    ensures value { text.new ≡ appended text.old (Line.word last) }
+    ensures grown { Grown text.old text.new 11 }
 {
     match last {
-        StepAnswer::Nothing => text::append(text, b" none"),
-        StepAnswer::Reset => text::append(text, b" reset"),
-        StepAnswer::Load => text::append(text, b" load"),
-        StepAnswer::Level(k) => text::append_decimal(text::append(text, b" level"), k as usize),
-        StepAnswer::Instruction => text::append(text, b" run"),
-        StepAnswer::Idle => text::append(text, b" idle"),
-        StepAnswer::Unassigned(_) => text::append(text, b" word"),
+        StepAnswer::Nothing => text.push(b" none"),
+        StepAnswer::Reset => text.push(b" reset"),
+        StepAnswer::Load => text.push(b" load"),
+        StepAnswer::Level(k) => {
+            text.push(b" level");
+            text.push_decimal(k as usize);
+        }
+        StepAnswer::Instruction => text.push(b" run"),
+        StepAnswer::Idle => text.push(b" idle"),
+        StepAnswer::Unassigned(_) => text.push(b" word"),
     }
 }
 
-// The line of an answer's number, counts and registers, and of what the last step answered.
-pub fn line(
-    number: u16,
-    steps: usize,
-    unassigned: usize,
-    pc: u16,
-    wp: u16,
-    st: u16,
-    last: StepAnswer,
-) -> Text
-    ensures prefix_len { IsPrefixLen result.length result.bytes }
-    ensures value { result ≡ Texts.appended Texts.empty (Line.text number steps unassigned pc wp st last) }
+// Puts an answer's number and counts behind the text.
+#[tactic(auto, using(text::proofs::Laws::pushes), unfolding(text::specs::Texts::ascii, crate::specs::Line::counts))]
+fn push_counts(text: &mut Text, number: u16, steps: usize, unassigned: usize)
+    requires { Room text.old 86 }
+    ensures value { text.new ≡ appended text.old (Line.counts number steps unassigned) }
+    ensures grown { Grown text.old text.new 86 }
 {
-    let halves = registers(counts(number, steps, unassigned), pc, wp, st);
-    text::append(append_word(halves, last), b"\n")
+    push_count(text, b"answer ", number as usize);
+    push_count(text, b" steps ", steps);
+    push_count(text, b" unassigned ", unassigned);
+}
+
+// Puts the registers behind the text.
+#[tactic(auto, using(text::proofs::Laws::pushes), unfolding(text::specs::Texts::ascii, crate::specs::Line::registers))]
+fn push_registers(text: &mut Text, state: &State)
+    requires { Room text.old 24 }
+    ensures value { text.new ≡ appended text.old (Line.registers state.now.pc state.now.wp state.now.st) }
+    ensures grown { Grown text.old text.new 24 }
+{
+    push_register(text, b" pc ", state.pc);
+    push_register(text, b" wp ", state.wp);
+    push_register(text, b" st ", state.st);
+}
+
+// The line of an answer's number, and of what was run and the state after it.
+#[tactic(auto, using(text::proofs::Laws::pushes), unfolding(text::specs::Texts::ascii, crate::specs::Line::text))]
+pub fn line(number: u16, ran: &Ran) -> Text
+    ensures prefix_len { IsPrefixLen result.length result.bytes }
+    ensures value { result ≡ appended empty (Line.text number ran.now.steps ran.now.unassigned ran.now.state.pc ran.now.state.wp ran.now.state.st ran.now.last) }
+{
+    let mut text = Text::new();
+    push_counts(&mut text, number, ran.steps, ran.unassigned);
+    push_registers(&mut text, &ran.state);
+    push_word(&mut text, ran.last);
+    text.push(b"\n");
+    text
 }

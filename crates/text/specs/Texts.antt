@@ -38,6 +38,10 @@ Room x n = (length x.bytes ≡ capacity) × (x.length + n ≤ capacity)
 abbrev pub Held : Text → Type 0
 Held x = Room x 0
 
+-- a text that grew by at most n bytes, in its array
+abbrev pub Grown : Text → Text → ℕ → Type 0
+Grown x y n = (length y.bytes ≡ length x.bytes) × (y.length ≤ x.length + n)
+
 -- no text yet
 unfoldable pub empty : Text
 empty = record { bytes = replicate capacity 0; length = 0 }

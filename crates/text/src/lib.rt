@@ -1,100 +1,94 @@
 // A text put together piece by piece in an array.
 #![tactic(auto)]
 
-ghost use Rattle.std.specs.Prelude.{◌<◌, ◌≤◌, ◌≡◌, length};
+ghost use Rattle.std.specs.Prelude.{◌<◌, ◌≡◌, length};
 ghost use Rattle.text.specs.Texts as Texts;
 
 // The bytes of a text's array: no text is longer.
 pub const CAPACITY: usize = 128;
 
 // The text's bytes are the first `length` ones.
+// Not an `ArrayString`: the contracts of `replay_files::line::line` and `replay_call::replay` say that zeros stand behind the text.
+// No ghost field for `length <= CAPACITY`: `Texts.appended` makes a `Text` of any `Text` and any bytes.
 #[derive(Clone, Copy)]
 pub struct Text {
     pub bytes: [u8; CAPACITY],
     pub length: usize,
 }
 
-// No text yet.
-pub fn empty() -> Text
-    ensures { result ≡ Texts.empty }
-{
-    Text {
-        bytes: [0; CAPACITY],
-        length: 0,
-    }
-}
-
 // A digit below 16 in ASCII, upper case.
+#[tactic(auto, using(std::proofs::lemmas::Bool::Decides::nat_tests), unfolding(crate::specs::Texts::glyph))]
 fn glyph(d: u16) -> u8
     requires { d < 16 }
     ensures { result ≡ Texts.glyph d }
 {
     if d < 10 {
-        return 0x30 + d as u8;
+        b'0' + d as u8
+    } else {
+        b'A' + (d as u8 - 10)
     }
-    0x37 + d as u8
 }
 
-// A word's four hexadecimal digits.
-fn hex(x: u16) -> [u8; 4]
-    ensures { result ≡ Texts.hex x }
-{
-    [
-        glyph(x / 0x1000 % 16),
-        glyph(x / 0x100 % 16),
-        glyph(x / 0x10 % 16),
-        glyph(x % 16),
-    ]
-}
-
-// The text with these bytes behind it.
-pub fn append(text: Text, part: &[u8]) -> Text
-    requires { Texts.Room text (length part.now) }
-    ensures { result ≡ Texts.appended text part.now }
-{
-    let mut bytes = text.bytes;
-    let at = text.length;
-    let to = at + part.len();
-    bytes[at..to].copy_from_slice(part);
-    Text { bytes, length: to }
-}
-
-// The text with a word in hexadecimal behind it.
-pub fn append_hex(text: Text, x: u16) -> Text
-    requires { Texts.Room text 4 }
-    ensures { result ≡ Texts.appended text (Texts.hex x) }
-{
-    let digits = hex(x);
-    append(text, &digits)
-}
-
-// The text with a number in decimal behind it.
-pub fn append_decimal(text: Text, n: usize) -> Text
-    requires { Texts.Room text (length (Texts.decimal n)) }
-    ensures { result ≡ Texts.appended text (Texts.decimal n) }
-{
-    let digit = [glyph((n % 10) as u16)];
-    if n < 10 {
-        return append(text, &digit);
+impl Text {
+    // No text yet.
+    #[tactic(auto, unfolding(crate::specs::Texts::empty))]
+    pub fn new() -> Self
+        ensures value { result ≡ Texts.empty }
+        ensures room { Texts.Room result Texts.capacity }
+    {
+        Text {
+            bytes: [0; CAPACITY],
+            length: 0,
+        }
     }
-    append(append_decimal(text, n / 10), &digit)
-}
 
-// A text of these bytes.
-pub fn of(part: &[u8]) -> Text
-    requires { length part.now ≤ Texts.capacity }
-    ensures { result ≡ Texts.appended Texts.empty part.now }
-{
-    append(empty(), part)
-}
+    // Puts these bytes behind the text.
+    #[tactic(auto, unfolding(crate::specs::Texts::appended))]
+    pub fn push(&mut self, part: &[u8])
+        requires { Texts.Room self.old (length part.now) }
+        ensures value { self.new ≡ Texts.appended self.old part.now }
+        ensures grown { Texts.Grown self.old self.new (length part.now) }
+    {
+        let end = self.length + part.len();
+        self.bytes[self.length..end].copy_from_slice(part);
+        self.length = end;
+    }
 
-// The text with another behind it.
-pub fn append_text(text: Text, other: Text) -> Text
-    requires held { Texts.Held other }
-    requires room { Texts.Room text other.length }
-    ensures { result ≡ Texts.appended text (Texts.content other) }
-{
-    let bytes = other.bytes;
-    let to = other.length;
-    append(text, &bytes[..to])
+    // Puts a word behind the text, in four hexadecimal digits.
+    #[tactic(auto, unfolding(crate::specs::Texts::hex))]
+    pub fn push_hex(&mut self, x: u16)
+        requires { Texts.Room self.old 4 }
+        ensures value { self.new ≡ Texts.appended self.old (Texts.hex x) }
+        ensures grown { Texts.Grown self.old self.new 4 }
+    {
+        self.push(&[
+            glyph(x / 0x1000),
+            glyph(x / 0x100 % 16),
+            glyph(x / 0x10 % 16),
+            glyph(x % 16),
+        ]);
+    }
+
+    // Puts a number behind the text, in decimal.
+    #[tactic(auto, using(crate::proofs::Laws::digits, crate::proofs::Laws::pushes))]
+    pub fn push_decimal(&mut self, n: usize)
+        requires { Texts.Room self.old (length (Texts.decimal n)) }
+        ensures value { self.new ≡ Texts.appended self.old (Texts.decimal n) }
+        ensures grown { Texts.Grown self.old self.new (length (Texts.decimal n)) }
+    {
+        if n >= 10 {
+            self.push_decimal(n / 10);
+        }
+        self.push(&[glyph((n % 10) as u16)]);
+    }
+
+    // The text's bytes.
+    #[tactic(auto, unfolding(crate::specs::Texts::content))]
+    pub fn as_bytes(&self) -> &[u8]
+        requires { Texts.Held self.now }
+        ensures value { result.now ≡ Texts.content self.now }
+        ensures len { length result.now ≡ self.now.length }
+    {
+        &self.bytes[..self.length]
+    }
 }

@@ -5,12 +5,12 @@ use Rattle.mnemonics.proofs.bit_name.Goals as goal
 
 pub returns-in-Sbo : goal.returns-in-Sbo
 unfolding ascii bit_name
-returns-in-Sbo c = rw c.in-Sbo.is c.of.ensures
+returns-in-Sbo c = cc
 
 pub returns-in-Sbz : goal.returns-in-Sbz
 unfolding ascii bit_name
-returns-in-Sbz c = rw c.in-Sbz.is c.of-in-Sbz.ensures
+returns-in-Sbz c = cc
 
 pub returns-in-Tb : goal.returns-in-Tb
 unfolding ascii bit_name
-returns-in-Tb c = rw c.in-Tb.is c.of-in-Tb.ensures
+returns-in-Tb c = cc

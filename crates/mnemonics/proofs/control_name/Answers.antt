@@ -5,24 +5,24 @@ use Rattle.mnemonics.proofs.control_name.Goals as goal
 
 pub returns-in-Idle : goal.returns-in-Idle
 unfolding ascii control_name
-returns-in-Idle c = rw c.in-Idle.is c.of.ensures
+returns-in-Idle c = cc
 
 pub returns-in-Rset : goal.returns-in-Rset
 unfolding ascii control_name
-returns-in-Rset c = rw c.in-Rset.is c.of-in-Rset.ensures
+returns-in-Rset c = cc
 
 pub returns-in-Rtwp : goal.returns-in-Rtwp
 unfolding ascii control_name
-returns-in-Rtwp c = rw c.in-Rtwp.is c.of-in-Rtwp.ensures
+returns-in-Rtwp c = cc
 
 pub returns-in-Ckon : goal.returns-in-Ckon
 unfolding ascii control_name
-returns-in-Ckon c = rw c.in-Ckon.is c.of-in-Ckon.ensures
+returns-in-Ckon c = cc
 
 pub returns-in-Ckof : goal.returns-in-Ckof
 unfolding ascii control_name
-returns-in-Ckof c = rw c.in-Ckof.is c.of-in-Ckof.ensures
+returns-in-Ckof c = cc
 
 pub returns-in-Lrex : goal.returns-in-Lrex
 unfolding ascii control_name
-returns-in-Lrex c = rw c.in-Lrex.is c.of-in-Lrex.ensures
+returns-in-Lrex c = cc

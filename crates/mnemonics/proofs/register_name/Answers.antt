@@ -5,20 +5,20 @@ use Rattle.mnemonics.proofs.register_name.Goals as goal
 
 pub returns-in-Coc : goal.returns-in-Coc
 unfolding ascii register_name
-returns-in-Coc c = rw c.in-Coc.is c.of.ensures
+returns-in-Coc c = cc
 
 pub returns-in-Czc : goal.returns-in-Czc
 unfolding ascii register_name
-returns-in-Czc c = rw c.in-Czc.is c.of-in-Czc.ensures
+returns-in-Czc c = cc
 
 pub returns-in-Xor : goal.returns-in-Xor
 unfolding ascii register_name
-returns-in-Xor c = rw c.in-Xor.is c.of-in-Xor.ensures
+returns-in-Xor c = cc
 
 pub returns-in-Mpy : goal.returns-in-Mpy
 unfolding ascii register_name
-returns-in-Mpy c = rw c.in-Mpy.is c.of-in-Mpy.ensures
+returns-in-Mpy c = cc
 
 pub returns-in-Div : goal.returns-in-Div
 unfolding ascii register_name
-returns-in-Div c = rw c.in-Div.is c.of-in-Div.ensures
+returns-in-Div c = cc

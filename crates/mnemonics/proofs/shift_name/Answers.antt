@@ -5,16 +5,16 @@ use Rattle.mnemonics.proofs.shift_name.Goals as goal
 
 pub returns-in-Sra : goal.returns-in-Sra
 unfolding ascii shift_name
-returns-in-Sra c = rw c.in-Sra.is c.of.ensures
+returns-in-Sra c = cc
 
 pub returns-in-Srl : goal.returns-in-Srl
 unfolding ascii shift_name
-returns-in-Srl c = rw c.in-Srl.is c.of-in-Srl.ensures
+returns-in-Srl c = cc
 
 pub returns-in-Sla : goal.returns-in-Sla
 unfolding ascii shift_name
-returns-in-Sla c = rw c.in-Sla.is c.of-in-Sla.ensures
+returns-in-Sla c = cc
 
 pub returns-in-Src : goal.returns-in-Src
 unfolding ascii shift_name
-returns-in-Src c = rw c.in-Src.is c.of-in-Src.ensures
+returns-in-Src c = cc

@@ -1,0 +1,5 @@
+-- A digit less each time: the number's tenth is smaller.
+use Rattle.text.proofs.Text.+push_decimal.Given as goal
+
+abbrev pub decreases-push_decimal : goal.decreases-push_decimal
+decreases-push_decimal l = l.n
