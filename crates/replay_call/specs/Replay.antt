@@ -19,6 +19,10 @@ pub record Result : Type 0 where
 abbrev pub line : ℕ → ℕ → ℕ → State → StepAnswer → List ℕ
 line number steps unassigned s last = Line.text number steps unassigned s.pc s.wp s.st last
 
+-- a run's answer and the image after, as the program tells them
+abbrev pub told : Run.RunAnswer → List ℕ → Result
+told r image = record { number = r.number; line = line r.number r.steps r.unassigned r.state r.last; image = image }
+
 -- On a refusal no image is written, and the line has the number, zero counts, the returned state and `none`.
 abbrev pub refused : ℕ → State → List ℕ → Result
 refused number s after = record { number = number; line = line number 0 0 s Nothing; image = after }

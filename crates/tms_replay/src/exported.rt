@@ -16,17 +16,26 @@ pub const LINE_ANSWER: usize = 2;
 pub const COMPARE_ANSWER: usize = 4;
 
 // Power up on the lent memory.
+#[tactic(auto, unfolding(crate::specs::Exported::power_up, machine::specs::Run::state_answer))]
 pub fn tms_power_up(memory: &mut [u8], state: &mut [u32; STATE_WORDS]) -> u16
     ensures value { result ≡ (Exported.power_up memory.old).number }
     ensures memory_after { memory.new ≡ (Exported.power_up memory.old).memory }
     ensures state_after { state.new ≡ (Exported.power_up memory.old).state }
 {
-    let answer = super::power_up(memory);
-    *state = words_of(answer.state);
-    answer.number
+    match super::power_up(memory) {
+        Ok(after) => {
+            *state = words_of(after);
+            0
+        }
+        Err(refused) => {
+            *state = words_of(refused.state);
+            refused.refusal.number()
+        }
+    }
 }
 
 // Runs at most `steps` steps, one record each, up to the stop address.
+#[tactic(auto, unfolding(crate::specs::Exported::run, machine::specs::Run::run_answer))]
 pub fn tms_run(
     memory: &mut [u8],
     state: &mut [u32; STATE_WORDS],
@@ -37,23 +46,26 @@ pub fn tms_run(
 ) -> u16
     ensures { Exported.Promised memory.old state.old records.now steps stop result memory.new state.new counts.new }
 {
-    let before = state_of(*state);
-    let answer = super::run(memory, before, records, steps, stop);
-    let last = answer.last;
-    *counts = [
-        answer.steps as u64,
-        answer.unassigned as u64,
-        step_answers::number(last) as u64,
-        step_answers::value(last) as u64,
-    ];
-    if answer.number != 0 {
-        return answer.number;
+    match super::run(memory, state_of(*state), records, steps, stop) {
+        Ok(ran) => {
+            *counts = [
+                ran.steps as u64,
+                ran.unassigned as u64,
+                step_answers::number(ran.last) as u64,
+                step_answers::value(ran.last) as u64,
+            ];
+            *state = words_of(ran.state);
+            0
+        }
+        Err(refused) => {
+            *counts = [0; COUNTS];
+            refused.refusal.number()
+        }
     }
-    *state = words_of(answer.state);
-    0
 }
 
 // Reads an image into the lent memory and the state's words.
+#[tactic(auto, unfolding(crate::specs::Exported::read, image::specs::Calls::read_answer))]
 pub fn tms_read_image(
     image: &[u8],
     memory: &mut [u8],
@@ -65,22 +77,34 @@ pub fn tms_read_image(
     ensures state_after { state.new ≡ (Exported.read image.now memory.old).state }
     ensures block_after { block.new ≡ (Exported.read image.now memory.old).block }
 {
-    let answer = super::read_image(image, memory);
-    *state = words_of(answer.state);
-    *block = answer.block as u32;
-    answer.number
+    match super::read_image(image, memory) {
+        Ok(after) => {
+            *state = words_of(after);
+            *block = 0;
+            0
+        }
+        Err(refused) => {
+            *state = words_of(refused.state);
+            *block = refused.refusal.block() as u32;
+            refused.refusal.number()
+        }
+    }
 }
 
 // Writes an image of the state's words and the lent memory.
+#[tactic(auto, unfolding(crate::specs::Exported::write, image::specs::Calls::write_answer))]
 pub fn tms_write_image(state: &[u32; STATE_WORDS], memory: &[u8], image: &mut [u8]) -> u16
     ensures value { result ≡ (Exported.write state.now memory.now image.old).number }
     ensures image_after { image.new ≡ (Exported.write state.now memory.now image.old).image }
 {
-    let answer = super::write_image(state_of(*state), memory, image);
-    answer.number
+    match super::write_image(state_of(*state), memory, image) {
+        Ok(()) => 0,
+        Err(refused) => refused.refusal.number(),
+    }
 }
 
 // Writes the line of the instruction at an address into the lent buffer.
+#[tactic(auto, using(listing::proofs::Longest::answer_short), unfolding(crate::specs::Exported::list, listing::specs::Listing::list_answer))]
 pub fn tms_list(
     memory: &[u8],
     address: u16,
@@ -91,13 +115,20 @@ pub fn tms_list(
     ensures text_after { text.new ≡ (Exported.list memory.now address text.old).text }
     ensures answer_after { answer.new ≡ (Exported.list memory.now address text.old).answer }
 {
-    let listed = super::list(memory, address, text);
-    let length = listed.length as u32;
-    *answer = [length, listed.words as u32];
-    listed.number
+    match super::list(memory, address, text) {
+        Ok(line) => {
+            *answer = [line.length as u32, line.words as u32];
+            0
+        }
+        Err(refusal) => {
+            *answer = [0; LINE_ANSWER];
+            refusal.number()
+        }
+    }
 }
 
 // Compares two images; `runs` gets start and length of the first 256 runs of differing bytes.
+#[tactic(auto, unfolding(crate::specs::Exported::compare, comparison::specs::Compare::compare_answer))]
 pub fn tms_compare_images(
     first: &[u8],
     second: &[u8],
@@ -108,12 +139,15 @@ pub fn tms_compare_images(
     ensures answer_after { answer.new ≡ (Exported.compare first.now second.now).answer }
     ensures runs_after { runs.new ≡ (Exported.compare first.now second.now).list }
 {
-    let compared = super::compare_images(first, second, runs);
-    *answer = [
-        compared.image as u32,
-        compared.block as u32,
-        compared.fields,
-        compared.runs,
-    ];
-    compared.number
+    match super::compare_images(first, second, runs) {
+        Ok(compared) => {
+            *answer = [0, 0, compared.fields, compared.runs];
+            0
+        }
+        Err(refused) => {
+            let refusal = refused.refusal();
+            *answer = [refused.image() as u32, refusal.block() as u32, 0, 0];
+            refusal.number()
+        }
+    }
 }

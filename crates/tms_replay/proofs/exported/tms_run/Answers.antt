@@ -1,14 +1,13 @@
--- `tms_run` meets its contract: the call's answer is handed on, and a refusal leaves the array alone.
+-- A refusal leaves the array alone, because its number is never 0.
 use borrow.Author.Tests.{ne_eqb}
+use Rattle.refusals.proofs.Laws.{never_0}
+use Rattle.machine.specs.Answer as Answer
+use Rattle.machine.specs.Run.{run_answer}
 use Rattle.tms_replay.specs.Exported.{run}
 use Rattle.tms_replay.proofs.exported.tms_run.Goals as goal
 
-pub returns-then-answer-ne0 : goal.returns-then-answer-ne0
-unfolding run
-returns-then-answer-ne0 c =
-    rw (← c.state_of-before.ensures, ← c.run-answer.ensures, ne_eqb _ _ c.if-answer-ne0.true, c.number.ensures, c.value.ensures)
-
-pub returns : goal.returns
-unfolding run
-returns c =
-    rw (← c.state_of-before.ensures, ← c.run-answer.ensures, c.if-answer-ne0.false, c.words_of.ensures, c.number.ensures, c.value.ensures)
+pub returns-in-Err : goal.returns-in-Err
+unfolding run run_answer Answer.number Answer.value
+returns-in-Err c =
+    let refused = ne_eqb _ 0 (never_0 c.in-Err.refused.refusal) in
+    rw (← c.state_of.ensures, ← c.run.ensures, c.in-Err.is, c.number-in-Err.ensures, refused)
