@@ -100,7 +100,8 @@ fn near_line(rt: &impl Print, seed: &mut Seed, first: u32) -> io::Result<()> {
         let load = pick(seed, [0, 1, 2, Psi::CLOCK_LARGEST]);
         let before = start(seed, load);
         let cycles = near_cycles(seed, before);
-        let after = before.advance(cycles);
+        let mut after = before;
+        after.advance(cycles);
         sum.mix(cycles);
         sum.mix_psi(after);
         if before.pending != 1 && after.pending == 1 {
@@ -130,7 +131,8 @@ fn far_line(rt: &impl Print, seed: &mut Seed, line: u32) -> io::Result<()> {
     let mut after = before;
     for _ in 0..FAR_CASES {
         cycles = far_cycles(seed);
-        after = before.advance(cycles);
+        after = before;
+        after.advance(cycles);
         sum.mix(cycles);
         sum.mix_psi(after);
     }

@@ -1,7 +1,7 @@
 // What the runs are made on.
 ghost use Rattle.std.specs.Prelude.{◌<◌, ◌≤◌};
 
-use machine::{RunAnswer, State};
+use machine::{Ran, Refused, State, StepAnswer};
 use replay_core::run;
 use seeds::{Seed, Sum};
 
@@ -24,6 +24,16 @@ fn quiet(seed: &mut Seed) -> u16
     4 << seed.below(5)
 }
 
+// One step, or none at the stop address.
+pub fn run_step(
+    bytes: &mut [u8; memory::SIZE],
+    state: State,
+    record: u32,
+    stop: u16,
+) -> Result<Ran, Refused> {
+    run::run(bytes, state, &[record], 1, stop)
+}
+
 // A run on the first bytes of the memory.
 fn run_part(
     bytes: &mut [u8; memory::SIZE],
@@ -31,7 +41,7 @@ fn run_part(
     state: State,
     records: &[u32],
     steps: usize,
-) -> RunAnswer
+) -> Result<Ran, Refused>
     requires { size ≤ 16384 }
 {
     run::run(&mut bytes[..size], state, records, steps, 1)
@@ -47,7 +57,7 @@ impl Bench {
     }
 
     // A run that is refused, for one reason or for two. A state is spoiled in one of the first `ways`.
-    pub fn run_refused(&mut self, state: State, ways: u16) -> RunAnswer
+    pub fn run_refused(&mut self, state: State, ways: u16) -> Result<Ran, Refused>
         requires { 0 < ways }
     {
         let Bench {
@@ -80,11 +90,26 @@ fn mix_count(sum: &mut Sum, count: usize) {
     sum.mix((count % 65536) as u32);
 }
 
-// Adds all that a run answers to the sum.
-pub fn mix_run(sum: &mut Sum, answer: &RunAnswer) {
-    sum.mix(answer.number);
-    mix_count(sum, answer.steps);
-    mix_count(sum, answer.unassigned);
-    sum.mix_answer(answer.last);
-    sum.mix_state(answer.state);
+// The number of a call's refusal; 0 where it is accepted.
+pub fn number<T>(answer: &Result<T, Refused>) -> u16 {
+    match answer {
+        Ok(_) => 0,
+        Err(refused) => refused.refusal.number(),
+    }
+}
+
+// Adds all that a run answers to the sum, and gives the state that it leaves. A refused run did nothing.
+pub fn mix_run(sum: &mut Sum, answer: Result<Ran, Refused>) -> State {
+    sum.mix(number(&answer));
+    let ran = answer.unwrap_or_else(|refused| Ran {
+        state: refused.state,
+        steps: 0,
+        unassigned: 0,
+        last: StepAnswer::Nothing,
+    });
+    mix_count(sum, ran.steps);
+    mix_count(sum, ran.unassigned);
+    sum.mix_answer(ran.last);
+    sum.mix_state(ran.state);
+    ran.state
 }

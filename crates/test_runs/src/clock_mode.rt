@@ -1,11 +1,10 @@
 // Single steps in clock mode, where the read register stays until an access refreshes it, of programs that often read the clock: counts
 // of the steps that move the read register and of those that leave it frozen; sums of the answer of every step and of the state after it.
-use crate::bench::Bench;
+use crate::bench::{Bench, run_step};
 use crate::programs::Theme;
-use machine::{State, bus};
+use machine::State;
 use memory::Width;
 use psi::Psi;
-use replay_core::run;
 use seeds::{Seed, Sum};
 use std::io;
 
@@ -60,7 +59,7 @@ impl Tally {
     }
 }
 
-// A case, which starts with R12 at the clock's lowest bit. A refused step would answer nothing, which the sum would show.
+// A case, which starts with R12 at the clock's lowest bit. A refused step would end it, which the sum would show.
 fn case(bench: &mut Bench, tally: &mut Tally) {
     let Bench {
         bytes,
@@ -69,14 +68,16 @@ fn case(bench: &mut Bench, tally: &mut Tally) {
         ..
     } = bench;
     let mut state = clock_state(seed);
-    memory::store(bytes, Width::Word, bus::register_at(state.wp, 12), 2);
+    memory::store(bytes, Width::Word, state.register_at(12), 2);
     let from = seed.below(256) as usize;
     for record in &records[from..from + STEPS] {
-        let answer = run::run(bytes, state, &[*record], 1, 1);
-        tally.sum.mix_answer(answer.last);
-        tally.sum.mix_state(answer.state);
-        tally.count(state.psi, answer.state.psi);
-        state = answer.state;
+        let Ok(ran) = run_step(bytes, state, *record, 1) else {
+            return;
+        };
+        tally.sum.mix_answer(ran.last);
+        tally.sum.mix_state(ran.state);
+        tally.count(state.psi, ran.state.psi);
+        state = ran.state;
     }
 }
 

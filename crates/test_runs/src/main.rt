@@ -2,8 +2,8 @@
 // refused calls; sums of the answer of every step and of what came of them. Then single steps in clock mode, and with a read-only part.
 #![tactic(auto)]
 
-use bench::{Bench, RECORDS, mix_run};
-use machine::{RunAnswer, State};
+use bench::{Bench, RECORDS, mix_run, number, run_step};
+use machine::{Ran, Refused, State};
 use programs::Theme;
 use replay_core::run;
 use seeds::{Seed, Sum, spoiled};
@@ -58,18 +58,19 @@ fn single_steps(
     sum: &mut Sum,
 ) {
     for record in records {
-        let answer = run::run(bytes, state, &[*record], 1, stop);
-        if answer.steps == 0 {
-            break;
+        match run_step(bytes, state, *record, stop) {
+            Ok(ran) if ran.steps != 0 => {
+                sum.mix_answer(ran.last);
+                state = ran.state;
+            }
+            _ => break,
         }
-        sum.mix_answer(answer.last);
-        state = answer.state;
     }
     sum.mix_state(state);
 }
 
 // A run, which is first made in single steps on a copy of the memory.
-fn run_twice(bench: &mut Bench, state: State, sum: &mut Sum) -> RunAnswer {
+fn run_twice(bench: &mut Bench, state: State, sum: &mut Sum) -> Result<Ran, Refused> {
     let Bench {
         bytes,
         copy,
@@ -91,18 +92,25 @@ fn call(bench: &mut Bench, state: &mut State, tally: &mut Tally) {
     } else {
         run_twice(bench, *state, &mut tally.sum)
     };
-    mix_run(&mut tally.sum, &answer);
-    tally.steps = tally.steps.wrapping_add(answer.steps as u64);
-    tally.unassigned = tally.unassigned.wrapping_add(answer.unassigned as u64);
-    if answer.number == 0 {
-        *state = answer.state;
+    mix_run(&mut tally.sum, answer);
+    if let Ok(ran) = answer {
+        tally.steps = tally.steps.wrapping_add(ran.steps as u64);
+        tally.unassigned = tally.unassigned.wrapping_add(ran.unassigned as u64);
+        *state = ran.state;
+    }
+}
+
+// The state that power up leaves.
+fn left(answer: Result<State, Refused>) -> State {
+    match answer {
+        Ok(state) | Err(Refused { state, .. }) => state,
     }
 }
 
 // The state that the calls on a memory start from: after power up, or any. With both flags every call is refused.
 fn start(bench: &mut Bench) -> State {
     if bench.seed.once_in(4) {
-        return run::power_up(&mut bench.bytes).state;
+        return left(run::power_up(&mut bench.bytes));
     }
     let flags = if bench.seed.once_in(2) {
         0
@@ -145,9 +153,9 @@ fn other_sizes(rt: &impl Print) -> io::Result<()> {
     let mut short = [0u8; memory::SIZE - 1];
     let up_short = run::power_up(&mut short);
     let mut state = Sum::ZERO;
-    state.mix_state(up.state);
+    state.mix_state(left(up));
     let memory = Sum::of_bytes(&long);
-    print!(rt; "{} {} {} ", up.number, ran.number, up_short.number)?;
+    print!(rt; "{} {} {} ", number(&up), number(&ran), number(&up_short))?;
     println!(rt; "{state} {memory}")
 }
 

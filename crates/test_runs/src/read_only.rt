@@ -1,6 +1,6 @@
 // Single steps with a read-only part, of programs of entries and stores, beside a run without it on a copy of the memory: how many cases end
 // otherwise, so that the part mattered; sums of the answer of every step and of the states.
-use crate::bench::{Bench, mix_run};
+use crate::bench::{Bench, mix_run, run_step};
 use crate::programs::Theme;
 use machine::State;
 use replay_core::run;
@@ -50,9 +50,7 @@ fn run_without(
         rom: State::NO_ROM,
         ..state
     };
-    let answer = run::run(bytes, free, records, records.len(), 1);
-    mix_run(sum, &answer);
-    answer.state
+    mix_run(sum, run::run(bytes, free, records, records.len(), 1))
 }
 
 // The state after a step for each record, each made by itself.
@@ -63,9 +61,7 @@ fn single_steps(
     sum: &mut Sum,
 ) -> State {
     for record in records {
-        let answer = run::run(bytes, state, &[*record], 1, 1);
-        mix_run(sum, &answer);
-        state = answer.state;
+        state = mix_run(sum, run_step(bytes, state, *record, 1));
     }
     state
 }
@@ -76,7 +72,7 @@ fn case(bench: &mut Bench, tally: &mut Tally) {
     let state = start(bench);
     if bench.seed.once_in(4) {
         let answer = bench.run_refused(state, spoiled::WAYS);
-        mix_run(&mut tally.sum, &answer);
+        mix_run(&mut tally.sum, answer);
     }
     let Bench {
         bytes,

@@ -4,7 +4,7 @@
 
 ghost use Rattle.std.specs.Prelude.{◌≤◌};
 
-use machine::{State, bus};
+use machine::State;
 use memory::Width;
 use seeds::{Seed, Sum};
 use std::io;
@@ -75,63 +75,63 @@ impl Bench {
     }
 
     // Puts a word into a register.
-    fn put_register(&mut self, wp: u16, n: u16, value: u16) {
-        self.put(bus::register_at(wp, n), value);
+    fn put_register(&mut self, state: State, n: u16, value: u16) {
+        self.put(state.register_at(n), value);
     }
 
     // Fills the workspace.
-    fn fill_registers(&mut self, wp: u16) {
+    fn fill_registers(&mut self, state: State) {
         for n in 0..16 {
             let value = if n == 12 {
                 base(&mut self.seed)
             } else {
-                self.seed.value(wp)
+                self.seed.value(state.wp)
             };
-            self.put_register(wp, n, value);
+            self.put_register(state, n, value);
         }
     }
 
     // Makes a word be reached through one to nine X, each in a register: the first of them.
-    fn chained(&mut self, wp: u16, word: u16) -> u16 {
+    fn chained(&mut self, state: State, word: u16) -> u16 {
         let first = self.seed.below(16);
         let last = first + self.seed.below(9);
         for n in first..last {
-            self.put_register(wp, n % 16, 0x0480 + (n + 1) % 16);
+            self.put_register(state, n % 16, 0x0480 + (n + 1) % 16);
         }
-        self.put_register(wp, last % 16, word);
+        self.put_register(state, last % 16, word);
         0x0480 + first
     }
 
     // Fills the workspace and what may be further words, and gives the word to be executed: `word` itself, or X that leads to it.
     fn prepared(&mut self, state: State, word: u16, pass: Pass) -> u16 {
-        self.fill_registers(state.wp);
+        self.fill_registers(state);
         let second = self.seed.value(state.wp);
         self.put(state.pc, second);
         let third = self.seed.value(state.pc);
         self.put(state.pc.wrapping_add(2), third);
         if pass.through {
-            self.chained(state.wp, word)
+            self.chained(state, word)
         } else {
             word
         }
     }
 
     // Adds the registers to the sum.
-    fn mix_registers(&self, sum: &mut Sum, wp: u16) {
+    fn mix_registers(&self, sum: &mut Sum, state: State) {
         for n in 0..16 {
-            let value = memory::load(&self.bytes, Width::Word, bus::register_at(wp, n));
-            sum.mix(value);
+            sum.mix(memory::load(&self.bytes, Width::Word, state.register_at(n)));
         }
     }
 
     // Executes a word from a state.
-    fn execute(&mut self, state: State, word: u16, tally: &mut Tally) {
-        let record = psi::split(self.seed.record(4));
-        let executed = cpu::perform(&mut self.bytes, state, record.levels, word, cpu::ALLOWANCE);
-        let answer = step_answers::told_word(state.pc, executed.deed);
+    fn execute(&mut self, mut state: State, word: u16, tally: &mut Tally) {
+        let levels = psi::split(self.seed.record(4)).levels;
+        let pc = state.pc;
+        let deed = cpu::perform(&mut state, &mut self.bytes, levels, word, cpu::ALLOWANCE);
+        let answer = step_answers::told_word(pc, deed);
         tally.sum.mix_answer(answer);
-        tally.sum.mix_state(executed.state);
-        self.mix_registers(&mut tally.sum, executed.state.wp);
+        tally.sum.mix_state(state);
+        self.mix_registers(&mut tally.sum, state);
         let missed = step_answers::missed(answer) as u64;
         tally.unassigned = tally.unassigned.wrapping_add(missed);
     }
