@@ -32,14 +32,16 @@ fn run_between(image: &[u8], file: &[u8], after: &mut [u8; IMAGE_SIZE]) -> Resul
     Ok(ran)
 }
 
-// Replays the image on the pin file, and leaves the image after. The line of a refusal has its number and state, and counts no step.
-pub fn replay(image: &[u8], file: &[u8], after: &mut [u8; IMAGE_SIZE]) -> Replayed
-    ensures number_value { result.number ≡ (Replay.replay image.now file.now after.old).number }
-    ensures prefix_len { IsPrefixLen result.text.length result.text.bytes }
-    ensures text_value { result.text ≡ Texts.appended Texts.empty (Replay.replay image.now file.now after.old).line }
-    ensures after_after { after.new ≡ (Replay.replay image.now file.now after.old).image }
+// The number of an outcome, and what the line tells of it: a refusal's state, and no step.
+#[tactic(auto, unfolding(machine::specs::Run::run_answer))]
+fn numbered(outcome: Result<Ran, Refused>) -> (u16, Ran)
+    ensures number { result.0 ≡ (Run.run_answer outcome).number }
+    ensures state { result.1.state ≡ (Run.run_answer outcome).state }
+    ensures steps { result.1.steps ≡ (Run.run_answer outcome).steps }
+    ensures unassigned { result.1.unassigned ≡ (Run.run_answer outcome).unassigned }
+    ensures last { result.1.last ≡ (Run.run_answer outcome).last }
 {
-    let (number, ran) = match run_between(image, file, after) {
+    match outcome {
         Ok(done) => (0, done),
         Err(refused) => (
             refused.refusal.number(),
@@ -50,7 +52,17 @@ pub fn replay(image: &[u8], file: &[u8], after: &mut [u8; IMAGE_SIZE]) -> Replay
                 last: StepAnswer::Nothing,
             },
         ),
-    };
+    }
+}
+
+// Replays the image on the pin file, and leaves the image after.
+pub fn replay(image: &[u8], file: &[u8], after: &mut [u8; IMAGE_SIZE]) -> Replayed
+    ensures number_value { result.number ≡ (Replay.replay image.now file.now after.old).number }
+    ensures prefix_len { IsPrefixLen result.text.length result.text.bytes }
+    ensures text_value { result.text ≡ Texts.appended Texts.empty (Replay.replay image.now file.now after.old).line }
+    ensures after_after { after.new ≡ (Replay.replay image.now file.now after.old).image }
+{
+    let (number, ran) = numbered(run_between(image, file, after));
     Replayed {
         number,
         text: line::line(number, &ran),
