@@ -1,7 +1,7 @@
 // Single blocks: made, judged, and taken apart.
 #![tactic(auto)]
 
-ghost use Rattle.std.specs.Prelude.{◌≡◌, ℕ, suc, ◌+◌, ◌-◌, ◌*◌, ◌%◌, ◌<◌, min, List, length, take, slice_index, OnErr};
+ghost use Rattle.std.specs.Prelude.{◌≡◌, ℕ, suc, ◌+◌, ◌-◌, ◌*◌, ◌%◌, ◌<◌, min, List, length, take, drop, OnErr};
 ghost use Rattle.memory.specs.Memory.{size};
 ghost use Rattle.refusals.specs.Refusals as Refusals;
 ghost use Rattle.image_blocks.specs.Image as Image;
@@ -70,14 +70,6 @@ pub fn zeros(part: &[u8]) -> bool
     ensures { result ≡ Image.zeros part.now }
 {
     part.iter().fold(0u8, |ones, byte| ones | *byte) == 0
-}
-
-// How many bytes of memory the blocks from 1 to `i` carry.
-pub fn carried(i: usize) -> usize
-    requires { i < Image.block_count }
-    ensures { result ≡ min (Image.content_size * i) size }
-{
-    (CONTENT_SIZE * i).min(memory::SIZE)
 }
 
 // Puts a word at a byte of a block.
@@ -203,6 +195,17 @@ pub fn field(image: &[u8; IMAGE_SIZE], n: usize) -> u16
 {
     let at = 2 * n + CONTENT;
     memory::word(image[at], image[at + 1])
+}
+
+// What block `i` + 1 carries of the memory: it lies behind the block's number.
+pub fn page_of(image: &[u8; IMAGE_SIZE], i: usize) -> &[u8]
+    requires { i < Image.page_count }
+    ensures value { result.now ≡ take Image.content_size (drop (Image.content_size * i) (Image.memory_of image.now)) }
+    ensures length { length result.now ≡ min Image.content_size (size - Image.content_size * i) }
+{
+    let start = BLOCK_SIZE * (i + 1) + CONTENT;
+    let end = start + CONTENT_SIZE.min(memory::SIZE - CONTENT_SIZE * i);
+    &image[start..end]
 }
 
 // The PSI that block 0 holds.
