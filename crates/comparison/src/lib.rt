@@ -7,7 +7,7 @@ ghost use Rattle.image_blocks.specs.Image as Image;
 ghost use Rattle.comparison.specs.Compare as Compare;
 
 use differing_runs::{Found, PLACES};
-use image_blocks::{BLOCK_SIZE, CONTENT, FIELDS, IMAGE_SIZE, LAST, ROM_FIELD};
+use image_blocks::{FIELDS, IMAGE_SIZE, LAST, ROM_FIELD};
 use refusals::Refusal;
 
 // Which fields of block 0 differ (weight 2^k for field k), and how many runs of bytes.
@@ -79,11 +79,10 @@ fn runs(first: &[u8; IMAGE_SIZE], second: &[u8; IMAGE_SIZE], list: &mut [u32; PL
     ensures list_after { list.new ≡ Runs.places (Compare.runs first.now second.now) }
 {
     let mut found = Found::nothing();
-    // Block `i` + 1: behind its number lies what it carries.
     for i in 0..LAST {
-        let start = BLOCK_SIZE * (i + 1) + CONTENT;
-        let end = start + (image_blocks::carried(i + 1) - found.address);
-        found.scan(&first[start..end], &second[start..end], list);
+        let one = image_blocks::page_of(first, i);
+        let other = image_blocks::page_of(second, i);
+        found.scan(one, other, list);
     }
     found.runs() as u32
 }

@@ -78,13 +78,16 @@ impl Found {
         ensures address { self.new.address ≡ self.old.address + length first.now }
         ensures holds { (seen : List Bool) → length seen ≡ self.old.address → Holds seen self.old list.old → Holds (seen ++ differences first.now second.now) self.new list.new }
     {
+        // A copy, which stays in registers: behind the reference the loop takes more than twice as long.
+        let mut found = *self;
         for (one, other) in first.iter().zip(second) {
             if one == other {
-                self.agree(1);
+                found.agree(1);
             } else {
-                self.differ(list);
+                found.differ(list);
             }
         }
+        *self = found;
     }
 
     // Goes over two parts, which carry the memories' bytes from `address` on; where they agree, all at once.

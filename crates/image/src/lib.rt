@@ -5,9 +5,7 @@ ghost use Rattle.std.specs.Prelude.{◌≡◌, IfOk};
 ghost use Rattle.image_blocks.specs.Image as Image;
 ghost use Rattle.image.specs.Calls as Calls;
 
-use image_blocks::{
-    BLOCK_SIZE, BLOCKS, CHECK, CONTENT, CONTENT_SIZE, IMAGE_SIZE, LAST, TAIL, TAIL_END,
-};
+use image_blocks::{BLOCK_SIZE, BLOCKS, CHECK, CONTENT_SIZE, IMAGE_SIZE, LAST, TAIL, TAIL_END};
 use machine::{Refused, State};
 use refusals::Refusal;
 
@@ -72,13 +70,11 @@ pub fn checked(image: &[u8]) -> Result<&[u8; IMAGE_SIZE], Refusal>
 fn fill_memory(image: &[u8; IMAGE_SIZE], lent: &mut [u8; memory::SIZE])
     ensures { lent.new ≡ Image.memory_of image.now }
 {
-    // Block `i` + 1: behind its number lies what it carries.
     for i in 0..LAST {
+        let page = image_blocks::page_of(image, i);
         let from = CONTENT_SIZE * i;
-        let to = image_blocks::carried(i + 1);
-        let start = BLOCK_SIZE * (i + 1) + CONTENT;
-        let end = start + (to - from);
-        lent[from..to].copy_from_slice(&image[start..end]);
+        let to = from + page.len();
+        lent[from..to].copy_from_slice(page);
     }
 }
 

@@ -1,5 +1,5 @@
 -- Parts of lists, and lists put together of equal parts.
-use Rattle.std.proofs.Common.{◌≡◌, ℕ, zero, suc, ◌+◌, ◌-◌, ◌*◌, ◌<◌, ◌≤◌, min, List, [], ◌∷◌, ◌++◌, length, take, drop, sym, ap, ◌∙◌, append_assoc, append-nil, add-zero, mul-zero, arith, length-append, length-drop, length-take, length-take-le, take_all, drop-drop, take_at, take-add, drop_at}
+use Rattle.std.proofs.Common.{◌≡◌, ℕ, zero, suc, ◌+◌, ◌-◌, ◌*◌, ◌<◌, ◌≤◌, min, List, [], ◌∷◌, ◌++◌, length, take, drop, sym, ap, ◌∙◌, append_assoc, append-nil, add-zero, mul-zero, arith, length-append, length-take-le, take_all, drop-drop, take_at, take-add, drop_at}
 use lib.ListN.{length-replicate}
 use borrow.Rule.Slice.PartMut.{put_mid}
 use lib.Seq.{take-nil, drop-append-add}
@@ -66,6 +66,3 @@ grown all old l p q from to same order fits so_far part whole =
     let rest : drop (to - from) (drop from l) ≡ drop to old =
     rw (after, drop-drop (to - from) from old, let e : from + (to - from) ≡ to = omega arith in e) in
     rw (before, whole, rest, ← append_assoc (take from all) p (drop to old), part, ← take-add from (to - from) all, let e : from + (to - from) ≡ to = omega arith in e)
-
-pub grown_length : (all old : List ℕ) (n : ℕ) → length all ≡ length old → length (take n all ++ drop n old) ≡ length old
-grown_length all old n same = simp (length-append, length-take, length-drop) (omega arith)

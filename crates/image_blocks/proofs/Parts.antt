@@ -91,13 +91,14 @@ memory_part img i k h l b f =
     ∙ ap (take k) (contents_part img i h l ∙ content_lies img (i + 1))
     ∙ take-take k 508 (drop (512 * (i + 1) + 2) img) b
 
--- what block i + 1 carries of the memory, up to byte `to`, lies between these two bytes of the image
-pub carried_part :
-    (img : List ℕ) (i to : ℕ) → length img ≡ image_size → i < 33 → to ≡ min (508 * (i + 1)) 16384
-    → take (512 * (i + 1) + 2 + (to - 508 * i) - (512 * (i + 1) + 2)) (drop (512 * (i + 1) + 2) img) ≡ take (to - 508 * i) (drop (508 * i) (memory_of img))
-carried_part img i to h l e =
-    rw (let n : 512 * (i + 1) + 2 + (to - 508 * i) - (512 * (i + 1) + 2) ≡ to - 508 * i = omega arith in n)
-    (sym (memory_part img i (to - 508 * i) h l (omega arith) (omega arith)))
+-- what block i + 1 carries of the memory lies between these two bytes of the image
+pub page_lies :
+    (img : List ℕ) (i n : ℕ) → length img ≡ image_size → i < 33 → n ≡ min 508 (16384 - 508 * i)
+    → take n (drop (512 * (i + 1) + 2) img) ≡ take 508 (drop (508 * i) (memory_of img))
+page_lies img i n h l e =
+    let rest = drop (508 * i) (memory_of img) in
+    let there : n ≡ min 508 (length rest) = rw (length-drop (508 * i) (memory_of img), memory_length img h) e in
+    sym (memory_part img i n h l (omega arith) (omega arith)) ∙ rw there (take_there 508 rest)
 
 -- either edition's fields leave room in block 0
 pub fields_most : (img : List ℕ) → fields_in img ≤ field_count

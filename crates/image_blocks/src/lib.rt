@@ -1,7 +1,7 @@
 // Single blocks: made, judged, and taken apart.
 #![tactic(auto)]
 
-ghost use Rattle.std.specs.Prelude.{◌≡◌, ℕ, suc, ◌+◌, ◌-◌, ◌*◌, ◌%◌, ◌<◌, min, List, length, take, slice_index, OnErr};
+ghost use Rattle.std.specs.Prelude.{◌≡◌, ℕ, suc, ◌+◌, ◌-◌, ◌*◌, ◌%◌, ◌<◌, min, List, length, take, drop, OnErr};
 ghost use Rattle.memory.specs.Memory.{size};
 ghost use Rattle.refusals.specs.Refusals as Refusals;
 ghost use Rattle.image_blocks.specs.Image as Image;
@@ -72,29 +72,49 @@ pub fn zeros(part: &[u8]) -> bool
     part.iter().fold(0u8, |ones, byte| ones | *byte) == 0
 }
 
-// How many bytes of memory the blocks from 1 to `i` carry.
-pub fn carried(i: usize) -> usize
-    requires { i < Image.block_count }
-    ensures { result ≡ min (Image.content_size * i) size }
-{
-    (CONTENT_SIZE * i).min(memory::SIZE)
-}
-
 // Puts a word at a byte of a block.
+#[tactic(auto, unfolding(crate::specs::Blocks::put_word))]
 fn put_word(block: &mut [u8; BLOCK_SIZE], at: usize, word: u16)
     requires { at < Image.block_size - 1 }
     ensures { block.new ≡ Blocks.put_word block.old at word }
 {
-    block[at] = (word / 256) as u8;
-    block[at + 1] = (word % 256) as u8;
+    let [high, low] = word.to_be_bytes();
+    block[at] = high;
+    block[at + 1] = low;
 }
 
-// Puts field `n` into block 0.
-fn put_field(block: &mut [u8; BLOCK_SIZE], n: usize, word: u16)
-    requires { n < Image.field_count }
-    ensures { block.new ≡ Blocks.put_word block.old (2 * n + 2) word }
+// Puts words into a block, from its content's first byte on.
+fn put_words(block: &mut [u8; BLOCK_SIZE], words: &[u16; FIELDS])
+    ensures { block.new ≡ Blocks.put_words block.old 0 words.now }
 {
-    put_word(block, 2 * n + CONTENT, word);
+    for (n, word) in words.iter().enumerate() {
+        put_word(block, 2 * n + CONTENT, *word);
+    }
+}
+
+// The words of block 0. The read-only address of a well-formed state fits its word; any other state is not written.
+#[tactic(auto, unfolding(crate::specs::Blocks::header_words, crate::specs::Image::fields))]
+fn header_words(state: State) -> [u16; FIELDS]
+    ensures { result ≡ Blocks.header_words state }
+{
+    let psi = state.psi;
+    [
+        FORMAT,
+        EDITION,
+        state.wp,
+        state.pc,
+        state.st,
+        state.flags,
+        psi.mask,
+        psi.direction,
+        psi.latch,
+        psi.load,
+        psi.decrementer,
+        psi.reading,
+        psi.phase,
+        psi.pending,
+        (state.rom % 65536) as u16,
+    ]
 }
 
 // Block 0 without its check word.
@@ -102,23 +122,7 @@ fn header(state: State) -> [u8; BLOCK_SIZE]
     ensures { (m : List ℕ) → result ≡ Blocks.unchecked state m 0 }
 {
     let mut block = [0u8; BLOCK_SIZE];
-    let psi = state.psi;
-    put_field(&mut block, 0, FORMAT);
-    put_field(&mut block, 1, EDITION);
-    put_field(&mut block, 2, state.wp);
-    put_field(&mut block, 3, state.pc);
-    put_field(&mut block, 4, state.st);
-    put_field(&mut block, 5, state.flags);
-    put_field(&mut block, PSI_FIELD, psi.mask);
-    put_field(&mut block, PSI_FIELD + 1, psi.direction);
-    put_field(&mut block, PSI_FIELD + 2, psi.latch);
-    put_field(&mut block, PSI_FIELD + 3, psi.load);
-    put_field(&mut block, PSI_FIELD + 4, psi.decrementer);
-    put_field(&mut block, PSI_FIELD + 5, psi.reading);
-    put_field(&mut block, PSI_FIELD + 6, psi.phase);
-    put_field(&mut block, PSI_FIELD + 7, psi.pending);
-    // A well-formed state's fits the word; any other is not written.
-    put_field(&mut block, ROM_FIELD, (state.rom % 65536) as u16);
+    put_words(&mut block, &header_words(state));
     block
 }
 
@@ -191,6 +195,17 @@ pub fn field(image: &[u8; IMAGE_SIZE], n: usize) -> u16
 {
     let at = 2 * n + CONTENT;
     memory::word(image[at], image[at + 1])
+}
+
+// What block `i` + 1 carries of the memory: it lies behind the block's number.
+pub fn page_of(image: &[u8; IMAGE_SIZE], i: usize) -> &[u8]
+    requires { i < Image.page_count }
+    ensures value { result.now ≡ take Image.content_size (drop (Image.content_size * i) (Image.memory_of image.now)) }
+    ensures length { length result.now ≡ min Image.content_size (size - Image.content_size * i) }
+{
+    let start = BLOCK_SIZE * (i + 1) + CONTENT;
+    let end = start + CONTENT_SIZE.min(memory::SIZE - CONTENT_SIZE * i);
+    &image[start..end]
 }
 
 // The PSI that block 0 holds.

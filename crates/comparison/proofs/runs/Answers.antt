@@ -1,14 +1,14 @@
--- `runs` meets its contract: what is found is what the memories have as far as the blocks before `i` + 1 carry them.
-use Prim.Native.Nat.{ℕ, min, ◌+◌, ◌-◌, ◌*◌}
+-- `runs` meets its contract: what is found is what the memories have in their pages before page `i`.
+use Prim.Native.Nat.{ℕ, ◌+◌, ◌*◌}
 use mathlib.Core.Path.{◌≡◌, sym, ◌∙◌}
 use mathlib.Core.List.{List}
 use native.Mathlib.Omega.{arith}
-use lib.ListN.{length, take, length-take}
+use lib.ListN.{length, take}
 use lib.Seq.{take_all, length-take-le}
 use Rattle.differing_runs.specs.Runs.{differences}
 use Rattle.differing_runs.proofs.Differences.{differences_length, next_part}
 use Rattle.image_blocks.specs.Image.{memory_of}
-use Rattle.image_blocks.proofs.Parts.{carried_part, memory_length}
+use Rattle.image_blocks.proofs.Parts.{memory_length}
 use Rattle.comparison.proofs.runs.Goals as goal
 
 pub loop-i-init : goal.loop-i-init
@@ -21,9 +21,7 @@ loop-i-preserved c =
     let one : List ℕ = memory_of a.first.now in
     let two : List ℕ = memory_of a.second.now in
     let i : ℕ = c.loop-i.i in
-    let to : ℕ = c.carried.result in
-    let from : min (508 * i) 16384 ≡ 508 * i = omega arith in
-    let at : c.loop-i.found.address ≡ 508 * i = c.loop-i.invariant.0 ∙ from in
+    let at : c.loop-i.found.address ≡ 508 * i = omega (arith, c.loop-i.invariant.0) in
     let long-one : length one ≡ 16384 = memory_length a.first.now (omega arith) in
     let long-two : length two ≡ 16384 = memory_length a.second.now (omega arith) in
     let seen_one = length-take-le (508 * i) one (omega arith) in
@@ -31,13 +29,12 @@ loop-i-preserved c =
     differences_length (take (508 * i) one) (take (508 * i) two) (seen_one ∙ sym (length-take-le (508 * i) two (omega arith))) ∙ seen_one in
     let found =
     rw (
-      at,
-      carried_part a.first.now i to (omega arith) (omega arith) c.carried.ensures,
-      carried_part a.second.now i to (omega arith) (omega arith) c.carried.ensures,
-      ← next_part one two (508 * i) (to - 508 * i) (omega arith) (omega arith),
-      let e : 508 * i + (to - 508 * i) ≡ min (508 * (i + 1)) 16384 = omega arith in e,
-    ) at (c.scan.ensures.holds (differences (take (508 * i) one) (take (508 * i) two)) (seen ∙ sym at) (rw from at c.loop-i.invariant.1)) in
-    (omega (arith, simp length-take at c.scan.ensures.address), found)
+      c.page_of-one.ensures.value,
+      c.page_of-other.ensures.value,
+      ← next_part one two (508 * i) 508 (omega arith) (omega arith),
+      let e : 508 * i + 508 ≡ 508 * (i + 1) = omega arith in e,
+    ) at (c.scan.ensures.holds (differences (take (508 * i) one) (take (508 * i) two)) (seen ∙ sym at) c.loop-i.invariant.1) in
+    (omega (arith, c.scan.ensures.address, c.page_of-one.ensures.length), found)
 
 pub returns : goal.returns
 returns c =
@@ -46,8 +43,7 @@ returns c =
     let two : List ℕ = memory_of a.second.now in
     let all =
     rw (
-      let e : min (508 * c.loop-i.i) 16384 ≡ 16384 = omega arith in e,
-      take_all 16384 one (omega (arith, memory_length a.first.now (omega arith))),
-      take_all 16384 two (omega (arith, memory_length a.second.now (omega arith))),
+      take_all (508 * c.loop-i.i) one (omega (arith, memory_length a.first.now (omega arith))),
+      take_all (508 * c.loop-i.i) two (omega (arith, memory_length a.second.now (omega arith))),
     ) at c.loop-i.invariant.1 in
     record { value = c.runs.ensures.value _ _ all; list_after = all.written }

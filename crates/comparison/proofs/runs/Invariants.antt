@@ -7,4 +7,4 @@ use Rattle.comparison.proofs.runs.Given as goal
 abbrev pub invariant-loop-i : goal.invariant-loop-i
 invariant-loop-i l =
     (l.found.address ≡ min (508 * l.i) 16384)
-    × Holds (differences (take (min (508 * l.i) 16384) (memory_of l.first)) (take (min (508 * l.i) 16384) (memory_of l.second))) l.found l.list
+    × Holds (differences (take (508 * l.i) (memory_of l.first)) (take (508 * l.i) (memory_of l.second))) l.found l.list

@@ -3,7 +3,7 @@
 use Rattle.std.proofs.Common.{◌≡◌, ℕ, ◌/◌, ◌%◌, List, replicate, refl, arith}
 use Rattle.machine.specs.declared.State.{State}
 use Rattle.image_blocks.specs.Image.{block_size, format, edition, content, padded, words_bytes, fields}
-use Rattle.image_blocks.specs.Blocks.{put_word, unchecked}
+use Rattle.image_blocks.specs.Blocks.{put_word, put_words, header_words, unchecked}
 use Rattle.image_blocks.proofs.header.Goals as goal
 
 -- the fields put in one after the other are the definition's bytes
@@ -18,22 +18,5 @@ put_reduced b at x =
     rw (let e : x % 65536 / 256 % 256 ≡ x / 256 % 256 = omega arith in e, let e : x % 65536 % 256 ≡ x % 256 = omega arith in e)
 
 pub returns : goal.returns
-returns c m =
-    rw (
-      c.put_field-15.ensures,
-      put_reduced,
-      c.put_field-14.ensures,
-      c.put_field-13.ensures,
-      c.put_field-12.ensures,
-      c.put_field-11.ensures,
-      c.put_field-10.ensures,
-      c.put_field-9.ensures,
-      c.put_field-8.ensures,
-      c.put_field-7.ensures,
-      c.put_field-6.ensures,
-      c.put_field-5.ensures,
-      c.put_field-4.ensures,
-      c.put_field-3.ensures,
-      c.put_field-2.ensures,
-      c.put_field.ensures,
-    ) (filled c.args.state m)
+unfolding put_words header_words
+returns c m = rw (c.put_words.ensures, c.header_words.ensures, put_reduced) (filled c.args.state m)

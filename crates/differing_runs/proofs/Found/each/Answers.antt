@@ -35,7 +35,7 @@ loop-one-preserved-then-one-other c =
     let turn = zip_turn a b c.loop-one.yielded c.into_iter-one-iterator.result c.loop-one.one-iterator c.next.new.self c.next.result (search rules) (search rules) c.loop-one.yielded_by _ c.in-Some.is c.next.ensures.steps in
     let e : eqb (get_or a i 0) (get_or b i 0) ≡ true = rw (← turn.2 0, ← turn.3 0) (eq-eqb _ _ c.if-one-other.true) in (
       omega (arith, n),
-      λ seen m h. next a b i _ c.args.self.now.address c.loop-one.self _ c.loop-one.list _ false c.requires.same_size turn.0 n (ap not e) (λ s l g. c.agree.ensures.holds s _ g) seen m (c.loop-one.invariant.1 seen m h),
+      λ seen m h. next a b i _ c.args.self.now.address c.loop-one.found _ c.loop-one.list _ false c.requires.same_size turn.0 n (ap not e) (λ s l g. c.agree.ensures.holds s _ g) seen m (c.loop-one.invariant.1 seen m h),
     )
 
 pub loop-one-preserved : goal.loop-one-preserved
@@ -47,5 +47,5 @@ loop-one-preserved c =
     let turn = zip_turn a b c.loop-one.yielded c.into_iter-one-iterator.result c.loop-one.one-iterator c.next.new.self c.next.result (search rules) (search rules) c.loop-one.yielded_by _ c.in-Some.is c.next.ensures.steps in
     let e : eqb (get_or a i 0) (get_or b i 0) ≡ false = rw (← turn.2 0, ← turn.3 0) (ne_eqb _ _ c.if-one-other.false) in (
       omega (arith, n),
-      λ seen m h. next a b i _ c.args.self.now.address c.loop-one.self _ c.loop-one.list _ true c.requires.same_size turn.0 n (ap not e) (λ s l g. c.differ.ensures.holds s (l ∙ sym c.loop-one.invariant.0) g) seen m (c.loop-one.invariant.1 seen m h),
+      λ seen m h. next a b i _ c.args.self.now.address c.loop-one.found _ c.loop-one.list _ true c.requires.same_size turn.0 n (ap not e) (λ s l g. c.differ.ensures.holds s (l ∙ sym c.loop-one.invariant.0) g) seen m (c.loop-one.invariant.1 seen m h),
     )

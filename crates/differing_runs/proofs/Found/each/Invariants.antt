@@ -5,5 +5,5 @@ use Rattle.differing_runs.proofs.Found.each.Given as goal
 
 abbrev pub invariant-loop-one : goal.invariant-loop-one
 invariant-loop-one l =
-    (l.self.address ≡ l.initial.self.address + length l.yielded)
-    × ((seen : List Bool) → length seen ≡ l.initial.self.address → Holds seen l.initial.self l.initial.list → Holds (seen ++ differences (take (length l.yielded) l.first) (take (length l.yielded) l.second)) l.self l.list)
+    (l.found.address ≡ l.initial.found.address + length l.yielded)
+    × ((seen : List Bool) → length seen ≡ l.initial.found.address → Holds seen l.initial.found l.initial.list → Holds (seen ++ differences (take (length l.yielded) l.first) (take (length l.yielded) l.second)) l.found l.list)
