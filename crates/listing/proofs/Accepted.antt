@@ -1,5 +1,5 @@
 -- What a call does in each of its three cases.
-use Rattle.std.proofs.Common.{◌≡◌, ℕ, ◌<◌, ◌≤◌, ◌++◌, List, length, drop, refl, eq-eqb, ne_eqb, lt-ltb, le-ltb}
+use Rattle.std.proofs.Common.{◌≡◌, ℕ, ◌<◌, ◌≤◌, ◌++◌, List, length, drop, eq-eqb, ne_eqb, lt-ltb, le-ltb}
 use Rattle.memory.specs.Memory.{size}
 use Rattle.listing.specs.Listing.{ListResult, list, list_refusal, least_buffer, line_at, word_count}
 

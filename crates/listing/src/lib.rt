@@ -1,7 +1,7 @@
 // The listing: one line of text for the instruction at an address.
 #![tactic(auto)]
 
-ghost use Rattle.std.specs.Prelude.{◌≤◌, ◌≡◌, [], ◌∷◌};
+ghost use Rattle.std.specs.Prelude.{◌≤◌, ◌≡◌, [], ◌∷◌, IfOk};
 ghost use Rattle.text.specs.Texts.{Grown, Held, Room, appended, empty};
 ghost use Rattle.listing.specs.Listing as Listing;
 
@@ -94,6 +94,7 @@ fn line_at(bytes: &[u8; memory::SIZE], address: u16) -> (Text, u16)
 #[tactic(auto, using(crate::proofs::Accepted::cases, text::proofs::Laws::content_of), unfolding(crate::specs::Listing::list_answer, refusals::specs::Refusals::number))]
 pub fn list(bytes: &[u8], address: u16, text: &mut [u8]) -> Result<Line, Refusal>
     ensures value { Listing.list_answer result ≡ (Listing.list bytes.now address text.old).answer }
+    ensures fits { IfOk result (λ line. line.length ≤ Listing.least_buffer) }
     ensures text_after { text.new ≡ (Listing.list bytes.now address text.old).text }
 {
     let Some(memory) = bytes.as_array() else {

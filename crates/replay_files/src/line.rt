@@ -1,7 +1,7 @@
 // The line that the program prints.
 ghost use Rattle.std.specs.Prelude.{◌+◌, ◌≡◌, ◌++◌, length};
 ghost use Rattle.io.specs.Counts.{IsPrefixLen};
-ghost use Rattle.text.specs.Texts.{Grown, Room, appended, decimal, empty, hex};
+ghost use Rattle.text.specs.Texts.{Grown, Held, Room, appended, decimal, empty, hex};
 ghost use Rattle.replay_files.specs.Line as Line;
 
 use machine::{Ran, State, StepAnswer};
@@ -77,6 +77,7 @@ fn push_registers(text: &mut Text, state: &State)
 // The line of an answer's number, and of what was run and the state after it.
 #[tactic(auto, using(text::proofs::Laws::pushes), unfolding(text::specs::Texts::ascii, crate::specs::Line::text))]
 pub fn line(number: u16, ran: &Ran) -> Text
+    ensures held { Held result }
     ensures prefix_len { IsPrefixLen result.length result.bytes }
     ensures value { result ≡ appended empty (Line.text number ran.now.steps ran.now.unassigned ran.now.state.pc ran.now.state.wp ran.now.state.st ran.now.last) }
 {

@@ -12,8 +12,8 @@ pub const CAPACITY: usize = 128;
 // No ghost field for `length <= CAPACITY`: `Texts.appended` makes a `Text` of any `Text` and any bytes.
 #[derive(Clone, Copy)]
 pub struct Text {
-    pub bytes: [u8; CAPACITY],
-    pub length: usize,
+    bytes: [u8; CAPACITY],
+    length: usize,
 }
 
 // A digit below 16 in ASCII, upper case.
