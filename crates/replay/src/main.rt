@@ -36,7 +36,7 @@ fn replay<'a>(
     if done.number == 0 {
         output::replace(rt, out, &after).map_err(|e| Failure::Of(out, e))?;
     }
-    rt.write_all(&done.text.bytes[..done.text.length])
+    rt.write_all(done.text.as_bytes())
         .map_err(|e| Failure::Of(b"standard output", e))
 }
 
