@@ -38,10 +38,13 @@ struct Bench {
     seed: Seed,
 }
 
+// What a call answers: the state that was read or written, or a refusal.
+type Answer = Result<State, Refused>;
+
 // What reading the image answered, and the sums of all answers of the case, of the memory and of the image.
 #[derive(Drop)]
 struct Outcome {
-    read: Result<State, Refused>,
+    read: Answer,
     answers: Sum,
     memory: Sum,
     image: Sum,
@@ -68,7 +71,7 @@ fn any_state(seed: &mut Seed, state: State) -> State {
 }
 
 // The numbers of a call's refusal and of its block; zeros where it is accepted.
-fn numbers(answer: &Result<State, Refused>) -> [u16; 2] {
+fn numbers(answer: &Answer) -> [u16; 2] {
     match answer {
         Ok(_) => [0, 0],
         Err(refused) => [refused.refusal.number(), refused.refusal.block()],
@@ -76,27 +79,27 @@ fn numbers(answer: &Result<State, Refused>) -> [u16; 2] {
 }
 
 // The state that a call answers, refused or not.
-fn state_of(answer: Result<State, Refused>) -> State {
+fn state_of(answer: Answer) -> State {
     answer.unwrap_or_else(|refused| refused.state)
 }
 
 // Adds what a write answers to the sum.
-fn mix_written(sum: &mut Sum, answer: Result<State, Refused>) {
+fn mix_written(sum: &mut Sum, answer: Answer) {
     let [number, _] = numbers(&answer);
     sum.mix(number);
     sum.mix_state(state_of(answer));
 }
 
 // Adds what a read answers to the sum.
-fn mix_read(sum: &mut Sum, answer: Result<State, Refused>) {
+fn mix_read(sum: &mut Sum, answer: Answer) {
     for number in numbers(&answer) {
         sum.mix(number);
     }
     sum.mix_state(state_of(answer));
 }
 
-// Writes an image; answers the state that it holds.
-fn write(state: State, bytes: &[u8], image: &mut [u8]) -> Result<State, Refused> {
+// Writes an image; answers the state that was written.
+fn write(state: State, bytes: &[u8], image: &mut [u8]) -> Answer {
     image::write_image(state, bytes, image).map(|()| state)
 }
 
@@ -106,7 +109,7 @@ fn write_parts(
     image: &mut [u8; IMAGE_SIZE],
     seed: &mut Seed,
     state: State,
-) -> Result<State, Refused> {
+) -> Answer {
     let given = any_state(seed, state);
     let from = size(seed, MEMORY);
     let to = size(seed, IMAGE);
@@ -114,11 +117,7 @@ fn write_parts(
 }
 
 // Reads from a part of the image into a part of the memory.
-fn read_parts(
-    image: &[u8; IMAGE_SIZE],
-    bytes: &mut [u8; memory::SIZE],
-    seed: &mut Seed,
-) -> Result<State, Refused> {
+fn read_parts(image: &[u8; IMAGE_SIZE], bytes: &mut [u8; memory::SIZE], seed: &mut Seed) -> Answer {
     let from = size(seed, IMAGE);
     let to = size(seed, MEMORY);
     image::read_image(&image[..from], &mut bytes[..to])
@@ -153,6 +152,7 @@ impl Bench {
         }
         sum.mix_bytes(&self.image);
         let plain = State { flags: 0, ..state };
+        // The state is well formed without its flags, so it is written.
         let _ = write(plain, &self.bytes, &mut self.image);
         damage::put_state(&mut self.image, state, image_blocks::EDITION);
     }
@@ -229,10 +229,7 @@ impl Bench {
 }
 
 // What writes answer with a memory, and with an image, that has one byte too many.
-fn write_longer(
-    bytes: &[u8; LONG_MEMORY],
-    image: &mut [u8; LONG_IMAGE],
-) -> [Result<State, Refused>; 2] {
+fn write_longer(bytes: &[u8; LONG_MEMORY], image: &mut [u8; LONG_IMAGE]) -> [Answer; 2] {
     let state = State::blank();
     let memory = write(state, bytes, &mut image[..IMAGE_SIZE]);
     let whole = write(state, &bytes[..memory::SIZE], image);
@@ -240,17 +237,14 @@ fn write_longer(
 }
 
 // The same of reads.
-fn read_longer(
-    image: &[u8; LONG_IMAGE],
-    bytes: &mut [u8; LONG_MEMORY],
-) -> [Result<State, Refused>; 2] {
+fn read_longer(image: &[u8; LONG_IMAGE], bytes: &mut [u8; LONG_MEMORY]) -> [Answer; 2] {
     let memory = image::read_image(&image[..IMAGE_SIZE], bytes);
     let whole = image::read_image(image, &mut bytes[..memory::SIZE]);
     [memory, whole]
 }
 
 // Shows the number of a call's refusal.
-fn show_number(rt: &impl Print, answer: Result<State, Refused>) -> io::Result<()> {
+fn show_number(rt: &impl Print, answer: Answer) -> io::Result<()> {
     let [number, _] = numbers(&answer);
     print!(rt; "{number} ")
 }
