@@ -1,14 +1,17 @@
 // Calls of the comparison, and what came of them.
-use comparison::CompareAnswer;
+use comparison::{Compared, ComparisonRefused};
 use differing_runs::PLACES;
 use image_blocks::IMAGE_SIZE;
 use seeds::Sum;
 use std::io;
 
+// What a comparison answers.
+type Answer = Result<Compared, ComparisonRefused>;
+
 // What comparing two images answered, and what it left in the first and the last places; the sums of all places, and of two calls more.
 #[derive(Drop)]
 pub struct Outcome {
-    pub answer: CompareAnswer,
+    pub answer: Answer,
     ends: [u32; 4],
     listed: Sum,
     rest: Sum,
@@ -21,13 +24,25 @@ fn mix_places(sum: &mut Sum, places: &[u32; PLACES]) {
     }
 }
 
+// An answer's numbers: of a refusal, of its image and of its block, and the fields and runs; what it does not have is 0.
+fn numbers(answer: Answer) -> [u32; 5] {
+    match answer {
+        Ok(compared) => [0, 0, 0, compared.fields, compared.runs],
+        Err(refused) => [
+            u32::from(refused.refusal().number()),
+            u32::from(refused.image()),
+            u32::from(refused.refusal().block()),
+            0,
+            0,
+        ],
+    }
+}
+
 // Adds an answer to the sum.
-fn mix_answer(sum: &mut Sum, answer: CompareAnswer) {
-    sum.mix(answer.number);
-    sum.mix(answer.image);
-    sum.mix(answer.block);
-    sum.mix(answer.fields);
-    sum.mix(answer.runs);
+fn mix_answer(sum: &mut Sum, answer: Answer) {
+    for number in numbers(answer) {
+        sum.mix(number);
+    }
 }
 
 // Adds what a call answers and leaves to the sum.
@@ -59,9 +74,11 @@ pub fn compare(
 }
 
 // Prints the numbers of an answer.
-fn show_answer(rt: &impl Print, answer: CompareAnswer) -> io::Result<()> {
-    print!(rt; "{} {} {} ", answer.number, answer.image, answer.block)?;
-    print!(rt; "{} {} ", answer.fields, answer.runs)
+fn show_answer(rt: &impl Print, answer: Answer) -> io::Result<()> {
+    for number in numbers(answer) {
+        print!(rt; "{number} ")?;
+    }
+    Ok(())
 }
 
 impl Outcome {

@@ -4,11 +4,10 @@
 
 ghost use Rattle.std.specs.Prelude.{◌<◌, ◌≤◌};
 
-use image::{ReadAnswer, WriteAnswer};
 use image_blocks::IMAGE_SIZE;
 use image_seeds::damage;
 use image_seeds::damage::Case;
-use machine::State;
+use machine::{Refused, State};
 use seeds::{Seed, Sum, spoiled};
 use std::io;
 
@@ -39,11 +38,13 @@ struct Bench {
     seed: Seed,
 }
 
+// What a call answers: the state that was read or written, or a refusal.
+type Answer = Result<State, Refused>;
+
 // What reading the image answered, and the sums of all answers of the case, of the memory and of the image.
 #[derive(Drop)]
 struct Outcome {
-    number: u16,
-    block: u16,
+    read: Answer,
     answers: Sum,
     memory: Sum,
     image: Sum,
@@ -69,17 +70,37 @@ fn any_state(seed: &mut Seed, state: State) -> State {
     }
 }
 
+// The numbers of a call's refusal and of its block; zeros where it is accepted.
+fn numbers(answer: &Answer) -> [u16; 2] {
+    match answer {
+        Ok(_) => [0, 0],
+        Err(refused) => [refused.refusal.number(), refused.refusal.block()],
+    }
+}
+
+// The state that a call answers, refused or not.
+fn state_of(answer: Answer) -> State {
+    answer.unwrap_or_else(|refused| refused.state)
+}
+
 // Adds what a write answers to the sum.
-fn mix_written(sum: &mut Sum, answer: &WriteAnswer) {
-    sum.mix(answer.number);
-    sum.mix_state(answer.state);
+fn mix_written(sum: &mut Sum, answer: Answer) {
+    let [number, _] = numbers(&answer);
+    sum.mix(number);
+    sum.mix_state(state_of(answer));
 }
 
 // Adds what a read answers to the sum.
-fn mix_read(sum: &mut Sum, answer: &ReadAnswer) {
-    sum.mix(answer.number);
-    sum.mix(answer.block);
-    sum.mix_state(answer.state);
+fn mix_read(sum: &mut Sum, answer: Answer) {
+    for number in numbers(&answer) {
+        sum.mix(number);
+    }
+    sum.mix_state(state_of(answer));
+}
+
+// Writes an image; answers the state that was written.
+fn write(state: State, bytes: &[u8], image: &mut [u8]) -> Answer {
+    image::write_image(state, bytes, image).map(|()| state)
 }
 
 // Writes from a part of the memory into a part of the image.
@@ -88,19 +109,15 @@ fn write_parts(
     image: &mut [u8; IMAGE_SIZE],
     seed: &mut Seed,
     state: State,
-) -> WriteAnswer {
+) -> Answer {
     let given = any_state(seed, state);
     let from = size(seed, MEMORY);
     let to = size(seed, IMAGE);
-    image::write_image(given, &bytes[..from], &mut image[..to])
+    write(given, &bytes[..from], &mut image[..to])
 }
 
 // Reads from a part of the image into a part of the memory.
-fn read_parts(
-    image: &[u8; IMAGE_SIZE],
-    bytes: &mut [u8; memory::SIZE],
-    seed: &mut Seed,
-) -> ReadAnswer {
+fn read_parts(image: &[u8; IMAGE_SIZE], bytes: &mut [u8; memory::SIZE], seed: &mut Seed) -> Answer {
     let from = size(seed, IMAGE);
     let to = size(seed, MEMORY);
     image::read_image(&image[..from], &mut bytes[..to])
@@ -109,8 +126,9 @@ fn read_parts(
 impl Outcome {
     // Adds it to the sum.
     fn mix_into(&self, sum: &mut Sum) {
-        sum.mix(self.number);
-        sum.mix(self.block);
+        for number in numbers(&self.read) {
+            sum.mix(number);
+        }
         sum.mix(self.answers);
         sum.mix(self.memory);
         sum.mix(self.image);
@@ -121,9 +139,9 @@ impl Bench {
     // Writes between parts, and then the whole image.
     fn write(&mut self, state: State, sum: &mut Sum) {
         let parts = write_parts(&self.bytes, &mut self.image, &mut self.seed, state);
-        mix_written(sum, &parts);
-        let whole = image::write_image(state, &self.bytes, &mut self.image);
-        mix_written(sum, &whole);
+        mix_written(sum, parts);
+        let whole = write(state, &self.bytes, &mut self.image);
+        mix_written(sum, whole);
     }
 
     // Where the state has both flags and no image of it was written: adds to the sum what is left in the image, which becomes one without
@@ -134,7 +152,8 @@ impl Bench {
         }
         sum.mix_bytes(&self.image);
         let plain = State { flags: 0, ..state };
-        image::write_image(plain, &self.bytes, &mut self.image);
+        // The state is well formed without its flags, so it is written.
+        let _ = write(plain, &self.bytes, &mut self.image);
         damage::put_state(&mut self.image, state, image_blocks::EDITION);
     }
 
@@ -150,8 +169,8 @@ impl Bench {
 
     // Writes again what was read of an accepted image.
     fn write_again(&mut self, state: State, sum: &mut Sum) {
-        let answer = image::write_image(state, &self.bytes, &mut self.again);
-        mix_written(sum, &answer);
+        let answer = write(state, &self.bytes, &mut self.again);
+        mix_written(sum, answer);
         sum.mix_bytes(&self.again);
     }
 
@@ -161,16 +180,15 @@ impl Bench {
         self.prepare(case, &mut answers);
         self.seed.fill(&mut self.bytes);
         let parts = read_parts(&self.image, &mut self.bytes, &mut self.seed);
-        mix_read(&mut answers, &parts);
+        mix_read(&mut answers, parts);
         answers.mix_bytes(&self.bytes);
-        let whole = image::read_image(&self.image, &mut self.bytes);
-        answers.mix_state(whole.state);
-        if whole.number == 0 {
-            self.write_again(whole.state, &mut answers);
+        let read = image::read_image(&self.image, &mut self.bytes);
+        answers.mix_state(state_of(read));
+        if let Ok(state) = read {
+            self.write_again(state, &mut answers);
         }
         Outcome {
-            number: whole.number,
-            block: whole.block,
+            read,
             answers,
             memory: Sum::of_bytes(&self.bytes),
             image: Sum::of_bytes(&self.image),
@@ -180,10 +198,8 @@ impl Bench {
     // A case shown by itself.
     fn show(&mut self, rt: &impl Print, case: Case) -> io::Result<()> {
         let outcome = self.one(case);
-        print!(rt;
-            "{} {} {} {} ",
-            case.kind, case.edition, outcome.number, outcome.block
-        )?;
+        let [number, block] = numbers(&outcome.read);
+        print!(rt; "{} {} {number} {block} ", case.kind, case.edition)?;
         println!(rt; "{} {} {}", outcome.answers, outcome.memory, outcome.image)
     }
 
@@ -204,7 +220,7 @@ impl Bench {
             let case = self.any_case();
             let outcome = self.one(case);
             outcome.mix_into(&mut sum);
-            if outcome.number == 0 {
+            if outcome.read.is_ok() {
                 accepted = accepted.wrapping_add(1);
             }
         }
@@ -213,29 +229,35 @@ impl Bench {
 }
 
 // What writes answer with a memory, and with an image, that has one byte too many.
-fn write_longer(bytes: &[u8; LONG_MEMORY], image: &mut [u8; LONG_IMAGE]) -> [u16; 2] {
+fn write_longer(bytes: &[u8; LONG_MEMORY], image: &mut [u8; LONG_IMAGE]) -> [Answer; 2] {
     let state = State::blank();
-    let memory = image::write_image(state, bytes, &mut image[..IMAGE_SIZE]);
-    let whole = image::write_image(state, &bytes[..memory::SIZE], image);
-    [memory.number, whole.number]
+    let memory = write(state, bytes, &mut image[..IMAGE_SIZE]);
+    let whole = write(state, &bytes[..memory::SIZE], image);
+    [memory, whole]
 }
 
 // The same of reads.
-fn read_longer(image: &[u8; LONG_IMAGE], bytes: &mut [u8; LONG_MEMORY]) -> [u16; 2] {
+fn read_longer(image: &[u8; LONG_IMAGE], bytes: &mut [u8; LONG_MEMORY]) -> [Answer; 2] {
     let memory = image::read_image(&image[..IMAGE_SIZE], bytes);
     let whole = image::read_image(image, &mut bytes[..memory::SIZE]);
-    [memory.number, whole.number]
+    [memory, whole]
+}
+
+// Shows the number of a call's refusal.
+fn show_number(rt: &impl Print, answer: Answer) -> io::Result<()> {
+    let [number, _] = numbers(&answer);
+    print!(rt; "{number} ")
 }
 
 // The four calls, and the bytes, which they leave.
 fn show_longer(rt: &impl Print) -> io::Result<()> {
     let mut bytes = [0; LONG_MEMORY];
     let mut image = [0; LONG_IMAGE];
-    for number in write_longer(&bytes, &mut image) {
-        print!(rt; "{number} ")?;
+    for answer in write_longer(&bytes, &mut image) {
+        show_number(rt, answer)?;
     }
-    for number in read_longer(&image, &mut bytes) {
-        print!(rt; "{number} ")?;
+    for answer in read_longer(&image, &mut bytes) {
+        show_number(rt, answer)?;
     }
     println!(rt; "{} {}", Sum::of_bytes(&bytes), Sum::of_bytes(&image))
 }

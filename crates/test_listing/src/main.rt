@@ -2,14 +2,15 @@
 // instruction's first word, two as a further one, all accepted; and one more with memories and buffers of wrong lengths among them.
 #![tactic(auto)]
 
-ghost use Rattle.std.specs.Prelude.{◌+◌, ◌<◌, ◌≤◌};
+ghost use Rattle.std.specs.Prelude.{◌+◌, ◌<◌, ◌≤◌, IfOk};
 ghost use Rattle.std.specs.Option.{IfSome};
 ghost use Rattle.memory.specs.Memory.{size};
 ghost use Rattle.listing.specs.Listing.{least_buffer};
 
-use listing::{LEAST_BUFFER, ListAnswer};
+use listing::{LEAST_BUFFER, Line};
 use memory::Width;
 use notation::Words;
+use refusals::Refusal;
 use seeds::{Seed, Sum};
 use std::io;
 
@@ -103,14 +104,6 @@ fn put(bytes: &mut [u8; memory::SIZE], address: u16, words: Words) {
     memory::store(bytes, Width::Word, address.wrapping_add(4), words.third);
 }
 
-// The call; no line is longer than the least buffer.
-#[tactic(auto, using(listing::proofs::Longest::answer_short))]
-fn list(bytes: &[u8], address: u16, text: &mut [u8]) -> ListAnswer
-    ensures { result.length ≤ least_buffer }
-{
-    listing::list(bytes, address, text)
-}
-
 // Shows the line of a word that two others follow.
 fn show(rt: &impl Print, bytes: &mut [u8; memory::SIZE], first: u16) -> io::Result<()> {
     let words = Words {
@@ -120,8 +113,9 @@ fn show(rt: &impl Print, bytes: &mut [u8; memory::SIZE], first: u16) -> io::Resu
     };
     put(bytes, SHOWN_AT, words);
     let mut text = [0; LEAST_BUFFER];
-    let answer = list(bytes, SHOWN_AT, &mut text);
-    rt.write_all(&text[..answer.length])?;
+    if let Ok(line) = listing::list(bytes, SHOWN_AT, &mut text) {
+        rt.write_all(&text[..line.length])?;
+    }
     rt.write_all(b"\n")
 }
 
@@ -207,30 +201,34 @@ impl Pass {
 }
 
 impl Tally {
-    // Adds what a call answers and the buffer that it leaves.
-    fn add(&mut self, answer: ListAnswer, text: &[u8])
-        requires { answer.length ≤ least_buffer }
+    // Adds what a call answers and the buffer that it leaves. A refusal has no line.
+    fn add(&mut self, answer: Result<Line, Refusal>, text: &[u8])
+        requires { IfOk answer (λ line. line.length ≤ least_buffer) }
     {
-        self.sum.mix(answer.number);
-        self.sum.mix(answer.length as u32);
-        self.sum.mix(answer.words);
+        let (number, length, words) = match answer {
+            Ok(line) => {
+                self.accepted = self.accepted.wrapping_add(1);
+                (0, line.length, line.words)
+            }
+            Err(refusal) => (refusal.number(), 0, 0),
+        };
+        self.sum.mix(number);
+        self.sum.mix(length as u32);
+        self.sum.mix(words);
         self.sum.mix_bytes(text);
-        self.length = self.length.wrapping_add(answer.length as u64);
-        if answer.number == 0 {
-            self.accepted = self.accepted.wrapping_add(1);
-        }
+        self.length = self.length.wrapping_add(length as u64);
     }
 }
 
 impl Bench {
     // Lists from the first bytes of a memory that may be longer.
-    fn list_other(&self, length: usize, address: u16, text: &mut [u8]) -> ListAnswer
+    fn list_other(&self, length: usize, address: u16, text: &mut [u8]) -> Result<Line, Refusal>
         requires { length ≤ size + 2 }
-        ensures { result.length ≤ least_buffer }
+        ensures { IfOk result (λ line. line.length ≤ least_buffer) }
     {
         let mut longer = [0; MEMORY];
         longer[..memory::SIZE].copy_from_slice(&self.bytes);
-        list(&longer[..length], address, text)
+        listing::list(&longer[..length], address, text)
     }
 
     // One case of a pass, in a buffer of any bytes.
@@ -242,7 +240,7 @@ impl Bench {
         let mut text = [0; TEXT];
         self.seed.fill(&mut text[..to]);
         let answer = match other {
-            None => list(&self.bytes, at, &mut text[..to]),
+            None => listing::list(&self.bytes, at, &mut text[..to]),
             Some(length) => self.list_other(length, at, &mut text[..to]),
         };
         tally.add(answer, &text[..to]);
