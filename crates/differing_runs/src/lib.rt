@@ -6,7 +6,7 @@ ghost use Rattle.differing_runs.specs.Runs.{differences, runs_of, places};
 
 mod listing;
 
-// How many runs are listed at most, and the places that they take: start and length of each.
+// How many runs are listed at most, and the places that they take: start and length of each, as the exported call lays them out for C.
 pub const LISTED: usize = 256;
 
 pub const PLACES: usize = 2 * LISTED;
