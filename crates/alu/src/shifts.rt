@@ -15,7 +15,8 @@ pub fn amount(n: u16) -> u16
     if low == 0 { 16 } else { low }
 }
 
-// The weight of bit `k`.
+// The weight of bit `k`. (That `k` is at most 16 stands in five contracts here; a type for it would not serve: it is an amount, a bit's
+// number, or 16 less an amount.)
 #[tactic(auto, using(std::proofs::lemmas::Bool::Decides::nat_tests))]
 fn weight(k: u32) -> u32
     requires { k ≤ 16 }

@@ -7,7 +7,8 @@ ghost use Rattle.isa.specs.Words as Words;
 
 use memory::Width;
 
-// A general operand: addressing mode 0 to 3 and register 0 to 15.
+// A general operand: addressing mode 0 to 3 and register 0 to 15. Both are numbers, not enums: what works on operands answers for any number
+// (`Operands.operand`, `Kinds.general`).
 #[derive(Clone, Copy)]
 pub struct Operand {
     pub mode: u16,

@@ -10,6 +10,8 @@ use refusals::Refusal;
 
 pub mod bus;
 
+// A state goes beside the lent memory, as two parameters: a struct that held the `&mut` of the memory would need, in each contract, a clause
+// that it is still the same reference.
 // WP, PC and ST; `flags` has weight 1 where the machine is idle, or weight 2 where the next boundary takes no sample; with both the state
 // is not well formed. Stores at or above `rom` are dropped; it has 32 bits, because another board may have 65536 there.
 #[derive(Clone, Copy)]
@@ -35,14 +37,8 @@ pub enum Deed {
     Returned,
 }
 
-// What an executed word was, and the state after it.
-#[derive(Clone, Copy)]
-pub struct Executed {
-    pub deed: Deed,
-    pub state: State,
-}
-
-// What the request code stands for at a step's boundary.
+// What the request code stands for at a step's boundary. Not an `Option` of three: `Step.signal`, `Step.admitted` and the theorems on
+// interrupts have four cases, and `sampling::vector` and `entry_status` answer for `Nothing` too.
 #[derive(Clone, Copy)]
 pub enum Signal {
     Reset,
@@ -52,7 +48,7 @@ pub enum Signal {
     Nothing,
 }
 
-// What a step answers; `Nothing` is for a run that did none.
+// What a step answers; `Nothing` is for a run that did none. Not an `Option` of six: `Answer.number` has 0 for `Nothing` among its cases.
 #[derive(Clone, Copy)]
 pub enum StepAnswer {
     // No step was done.

@@ -9,13 +9,12 @@ impl Psi {
     // What bit n, from 1 to 15, reads in clock mode.
     #[tactic(auto, using(std::proofs::lemmas::Bool::Decides::nat_tests), unfolding(crate::specs::Cru::timed_value))]
     fn timed_value(self, levels: u32, n: u32) -> bool
-        requires { (0 < n) × (n < 16) }
         ensures { result ≡ Cru.timed_value self levels n }
     {
         if n == 15 {
             self.request(levels) != 0
         } else {
-            bits::bit(self.reading as u32, n - 1)
+            bits::bit(self.reading as u32, n.saturating_sub(1))
         }
     }
 

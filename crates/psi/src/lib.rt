@@ -12,7 +12,8 @@ mod cru;
 mod pins;
 
 // The state. `mask` holds the control bit at weight 1 and request n's mask at weight 2^n; `direction` (1: output) and
-// `latch` have port n at weight 2^n; `reading` is the read register.
+// `latch` have port n at weight 2^n; `reading` is the read register. All are words as an image has them, `pending` too: a state need not
+// be well formed.
 #[derive(Clone, Copy)]
 pub struct Psi {
     pub mask: u16,

@@ -28,23 +28,21 @@ impl Psi {
         }
     }
 
-    // The level of pin INTn.
+    // The level of pin INTn, for n from 1 to 15; for any other number what the definition gives.
     #[tactic(auto, using(std::proofs::lemmas::Bool::Decides::nat_tests), unfolding(crate::specs::Pins::request_level))]
     pub(crate) fn request_level(self, levels: u32, n: u32) -> bool
-        requires { (0 < n) × (n < 16) }
         ensures { result ≡ Pins.request_level self levels n }
     {
         if n < 7 {
-            bits::bit(levels, n - 1)
+            bits::bit(levels, n.saturating_sub(1))
         } else {
-            self.port_level(levels, 22 - n)
+            self.port_level(levels, 22u32.saturating_sub(n))
         }
     }
 
     // Whether request n is active: its pin is low, or for request 3 with a load the clock's flag is set.
     #[tactic(auto, using(std::proofs::lemmas::Bool::Decides::nat_tests), unfolding(crate::specs::Pins::active))]
     fn active(self, levels: u32, n: u32) -> bool
-        requires { (0 < n) × (n < 16) }
         ensures { result ≡ Pins.active self levels n }
     {
         if n == 3 && self.load != 0 {
@@ -57,7 +55,6 @@ impl Psi {
     // Whether request n is enabled and active.
     #[tactic(auto, unfolding(crate::specs::Pins::requested))]
     fn requested(self, levels: u32, n: u32) -> bool
-        requires { (0 < n) × (n < 16) }
         ensures { result ≡ Pins.requested self levels n }
     {
         bits::bit(self.mask as u32, n) && self.active(levels, n)

@@ -12,7 +12,7 @@ use machine::{Ran, Refused, StepAnswer};
 use replay_files::{line, pins};
 use text::Text;
 
-// The number and the line.
+// The number and the line. A number, as the contract of `replay` names no block.
 #[derive(Clone, Copy)]
 pub struct Replayed {
     pub number: u16,

@@ -74,7 +74,7 @@ fn push_registers(text: &mut Text, state: &State)
     push_register(text, b" st ", state.st);
 }
 
-// The line of an answer's number, and of what was run and the state after it.
+// The line of an answer's number, which is 0 where nothing was refused (`Line.text` takes the number), of what was run and the state after it.
 #[tactic(auto, using(text::proofs::Laws::pushes), unfolding(text::specs::Texts::ascii, crate::specs::Line::text))]
 pub fn line(number: u16, ran: &Ran) -> Text
     ensures held { Held result }

@@ -25,7 +25,7 @@ impl Seed {
         (self.0 >> 16) as u16
     }
 
-    // A number below `limit`.
+    // A number below `limit`. (A `NonZeroU16` would want an `unwrap` at each of the many literals.)
     pub fn below(&mut self, limit: u16) -> u16
         requires { 0 < limit }
         ensures { result < limit }

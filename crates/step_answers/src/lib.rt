@@ -1,4 +1,4 @@
-// What a step answers: of an executed word, and as numbers.
+// What a step answers: of an executed word, and as the numbers that C knows it by (two of them, so not a `From`).
 #![tactic(auto)]
 
 ghost use Rattle.std.specs.Prelude.{◌≡◌};
