@@ -14,7 +14,7 @@ use Rattle.std.specs.Prelude.{⊤, Ok, Err}
 use Rattle.refusals.specs.declared.Refusal.{Refusal}
 use Rattle.refusals.specs.Refusals.{number, block, number_of, block_of}
 use Rattle.image.specs.Calls.{Fault, fault, fault_of, image_fault, read_fault, read}
-use Rattle.image.proofs.Numbers.{numbered}
+use Rattle.refusals.proofs.Laws.{never_0}
 
 -- once the memory's size is right, the image alone counts
 pub alone : (img m : List ℕ) → length m ≡ size → read_fault img m ≡ image_fault img
@@ -53,7 +53,7 @@ pub reads_not_image :
 unfolding number_of block_of
 reads_not_image img m r h e =
     let f = alone img m h ∙ sym e in
-    rw f at (reads_not img m (rw f (numbered r)))
+    rw f at (reads_not img m (rw f (never_0 r)))
 
 pub reads_image :
     (img m : List ℕ) → length m ≡ size → fault_of {A = ⊤} (Ok tt) ≡ image_fault img

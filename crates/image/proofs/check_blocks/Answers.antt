@@ -5,7 +5,7 @@ use Rattle.refusals.specs.declared.Refusal.{Refusal}
 use Rattle.refusals.specs.Refusals.{number, block, number_of, block_of}
 use Rattle.image_blocks.specs.Image.{block_fault}
 use Rattle.image.specs.Calls.{first_fault}
-use Rattle.image.proofs.Numbers.{numbered}
+use Rattle.refusals.proofs.Laws.{never_0}
 use Rattle.image.proofs.check_blocks.Goals as goal
 
 -- one block more is judged
@@ -24,7 +24,7 @@ returns-in_err-check_block c =
     let e : Refusal = c.in_err-check_block.field-0.0 in
     let found = c.in_err-check_block.ensures in
     let same : c.from_residual.result ≡ Err e = search rules in
-    let some : block_fault img i ≡ 0 → ⊥ = λ z. numbered e (found.number ∙ z) in
+    let some : block_fault img i ≡ 0 → ⊥ = λ z. never_0 e (found.number ∙ z) in
     let first : first_fault img 34 0 ≡ record { number = block_fault img i; block = i } =
     c.loop-i.invariant ∙ next img i (omega arith) ∙ rw (ne_eqb (block_fault img i) 0 some) in
     rw (same, first, found.number, found.block)
