@@ -5,7 +5,7 @@ use Rattle.refusals.specs.declared.Refusal.{Refusal}
 use Rattle.refusals.specs.Refusals.{number_of, block_of}
 use Rattle.differing_runs.specs.Runs.{numbers, places}
 use Rattle.image.specs.Calls.{Fault, fault_of, image_fault}
-use Rattle.image.proofs.Numbers.{numbered}
+use Rattle.refusals.proofs.Laws.{never_0}
 use Rattle.comparison.specs.Compare.{compare, compare_answer, image_refused, refusal}
 use Rattle.comparison.specs.declared.ComparisonRefused.TheVariants.{First, Second}
 use Rattle.comparison.proofs.compare_images.Goals as goal
@@ -13,7 +13,7 @@ use Rattle.comparison.proofs.compare_images.Goals as goal
 -- an image that is refused, and one that is not
 refused : (img : List ℕ) (r : Refusal) → fault_of {A = ⊤} (Err r) ≡ image_fault img → eqb (image_fault img).number 0 ≡ false
 unfolding number_of
-refused img r e = ne_eqb _ _ (λ z. numbered r (ap (λ (f : Fault). f.number) e ∙ z))
+refused img r e = ne_eqb _ _ (λ z. never_0 r (ap (λ (f : Fault). f.number) e ∙ z))
 
 sound : (img : List ℕ) → fault_of {A = ⊤} (Ok tt) ≡ image_fault img → eqb (image_fault img).number 0 ≡ true
 unfolding number_of
