@@ -21,11 +21,10 @@ pub fn product(a: u16, b: u16) -> Pair
 pub fn divided(d: u16, p: Pair) -> Pair
     ensures { result ≡ Products.divided d p }
 {
-    let high = p.high;
-    if d <= high {
+    if d <= p.high {
         return p;
     }
-    let all = (high as u32) * 65536 + (p.low as u32);
+    let all = (p.high as u32) * 65536 + p.low as u32;
     let by = d as u32;
     Pair {
         high: (all / by) as u16,

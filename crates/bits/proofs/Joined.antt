@@ -10,7 +10,7 @@ use lib.Dec.{eqb}
 use lib.Arith.{lt-one}
 use lib.Bits.{bit_and, bit_or, bit_xor, differ, and_step, or_step, xor_step, and_le_l}
 use Rattle.bits.specs.Bits.{one_if, bit}
-use Rattle.bits.specs.Logic.{joined}
+use Rattle.bits.specs.Logic.{joined, without}
 use Rattle.bits.specs.Laws.{AndBit, WithoutBit}
 use Rattle.bits.proofs.Laws.{one_if_below, one_if_set, bit_half}
 
@@ -108,3 +108,15 @@ and_bit = bit_of and_digits
 
 pub without_bit : WithoutBit
 without_bit = bit_of without_digits
+
+-- the ones of a word and of another turned round are those that the other does not have
+not_and : (k a b : ℕ) → a < 2 ^ k → b < 2 ^ k → bit_and a (2 ^ k - 1 - b) ≡ a - bit_and a b
+not_and zero a b ha hb = rw (lt-one ha) (omega (arith, and_le_l 0 b))
+not_and (suc k) a b ha hb =
+    let half : (2 ^ suc k - 1 - b) / 2 ≡ 2 ^ k - 1 - b / 2 = omega arith in
+    let whole = rw half at (and_step a (2 ^ suc k - 1 - b)) in
+    omega (arith, whole, not_and k (a / 2) (b / 2) (omega arith) (omega arith), and_step a b, and_le_l (a / 2) (b / 2))
+
+pub without_inverted : (a b : ℕ) → a < 65536 → b < 65536 → bit_and a (65535 - b) ≡ without a b
+unfolding without
+without_inverted a b ha hb = not_and 16 a b ha hb ∙ sym (without_is 16 a b ha hb)

@@ -43,22 +43,25 @@ pub fn exclusive(a: u16, b: u16) -> u16
 }
 
 // The ones of `a` that `b` does not have.
+#[tactic(auto, using(crate::proofs::Joined::without_inverted))]
 pub fn without(a: u16, b: u16) -> u16
     ensures { result ≡ Logic.without a b }
 {
-    a - (a & b)
+    a & !b
 }
 
 // Each bit the other way round.
+#[tactic(auto, unfolding(crate::specs::Logic::inverted))]
 pub fn inverted(v: u16) -> u16
     ensures { result ≡ Logic.inverted v }
 {
-    65535 - v
+    !v
 }
 
 // The two bytes of a word exchanged.
+#[tactic(auto, unfolding(crate::specs::Logic::swapped))]
 pub fn swapped(v: u16) -> u16
     ensures { result ≡ Logic.swapped v }
 {
-    v % 256 * 256 + v / 256
+    v.swap_bytes()
 }

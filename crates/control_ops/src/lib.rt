@@ -37,7 +37,7 @@ pub fn load_workspace(state: &mut State, memory: &[u8; SIZE])
     state.set_wp(word);
 }
 
-// STST.
+// STST. (One line each: a function of both would take a flag.)
 #[tactic(auto, using(machine::proofs::Bind::in_turn), unfolding(machine::specs::Groups::store_status))]
 pub fn store_status(state: &mut State, memory: &mut [u8; SIZE], n: u16)
     ensures { (v : ℕ) → perform v (Groups.store_status n) (at state.old memory.old) ≡ performed tt (at state.new memory.new) }

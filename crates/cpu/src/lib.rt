@@ -37,7 +37,7 @@ fn execute(state: &mut State, memory: &mut [u8; SIZE], word: u16, allowance: u16
     word
 }
 
-// The same, asked before the call: `execute` is recursive, so it stays a call, and a word that is no X goes on without one.
+// The same, asked before the call: a word that is no X goes on without one.
 #[tactic(auto, using(machine::proofs::Bind::in_turn), unfolding(crate::specs::Resolve::resolve))]
 fn last_word(state: &mut State, memory: &mut [u8; SIZE], word: u16, allowance: u16) -> u16
     ensures { (v : ℕ) → perform v (Resolve.resolve allowance word) (at state.old memory.old) ≡ performed result (at state.new memory.new) }

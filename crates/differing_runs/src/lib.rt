@@ -37,6 +37,7 @@ impl Found {
 
     // How many runs there are.
     pub fn runs(&self) -> usize
+        ensures upper_bound { result ≤ self.now.ended + self.now.length }
         ensures bound { result ≤ self.now.address }
         ensures value { (seen : List Bool) (list : List ℕ) → Holds seen self.now list → result ≡ length (runs_of seen) }
     {

@@ -24,7 +24,8 @@ pub record WriteAnswer : Type 0 where
   pub number : ℕ
   pub state : State
 
--- What a call gives, in these terms. The numbers of refusals differ, so each determines what the call gives.
+-- What a call gives, in these terms. The numbers of refusals differ, and a refusal that names a block is among reading's and an image's
+-- alone, where the block stands too; so each determines what its call gives.
 
 abbrev pub fault_of : {A : Type 0} → Result A Refusal → Fault
 fault_of r = record { number = number_of r; block = block_of r }

@@ -27,7 +27,7 @@ fn filler_clear(image: &[u8; IMAGE_SIZE]) -> bool
     image_blocks::zeros(&image[rest..CHECK]) && image_blocks::zeros(&image[TAIL..TAIL_END])
 }
 
-// Whether this edition is read: 1 or 2.
+// Whether this edition is read: 1 or 2. (A number, as the file has it: every other is refused.)
 fn known_edition(edition: u16) -> bool
     ensures { result ≡ Calls.known_edition edition }
 {

@@ -208,21 +208,22 @@ pub fn page_of(image: &[u8; IMAGE_SIZE], i: usize) -> &[u8]
     &image[start..end]
 }
 
-// The PSI that block 0 holds.
+// The PSI that block 0 holds, from the blank one: document 01 wants its constructor used here. (Field by field, as the order of an image's words
+// is read here.)
 #[tactic(auto, unfolding(crate::specs::Image::psi_of))]
 fn psi_of(image: &[u8; IMAGE_SIZE]) -> Psi
     ensures { result ≡ Image.psi_of image.now }
 {
-    Psi {
-        mask: field(image, PSI_FIELD),
-        direction: field(image, PSI_FIELD + 1),
-        latch: field(image, PSI_FIELD + 2),
-        load: field(image, PSI_FIELD + 3),
-        decrementer: field(image, PSI_FIELD + 4),
-        reading: field(image, PSI_FIELD + 5),
-        phase: field(image, PSI_FIELD + 6),
-        pending: field(image, PSI_FIELD + 7),
-    }
+    let mut psi = Psi::blank();
+    psi.mask = field(image, PSI_FIELD);
+    psi.direction = field(image, PSI_FIELD + 1);
+    psi.latch = field(image, PSI_FIELD + 2);
+    psi.load = field(image, PSI_FIELD + 3);
+    psi.decrementer = field(image, PSI_FIELD + 4);
+    psi.reading = field(image, PSI_FIELD + 5);
+    psi.phase = field(image, PSI_FIELD + 6);
+    psi.pending = field(image, PSI_FIELD + 7);
+    psi
 }
 
 // Whether the image is of edition 1.

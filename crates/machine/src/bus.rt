@@ -1,4 +1,5 @@
-// Accesses to the lent memory and to the registers, which the PSI sees too: each is one access of a microprogram.
+// A state's accesses, each of which is one of a microprogram: to the lent memory, which the PSI sees too, to the machine's registers, and to
+// CRU bits.
 ghost use Rattle.std.specs.Prelude.{◌≡◌, ℕ, List};
 ghost use Rattle.machine.specs.Operands as Operands;
 ghost use Rattle.machine.specs.State.{at};

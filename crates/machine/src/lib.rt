@@ -89,7 +89,7 @@ impl State {
     }
 
     // An access to memory at this byte address, which the PSI sees.
-    fn address(&mut self, address: u16)
+    pub fn address(&mut self, address: u16)
         ensures { self.new ≡ Perform.addressed address self.old }
     {
         self.psi.address(address);

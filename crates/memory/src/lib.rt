@@ -65,8 +65,9 @@ pub fn store(memory: &mut [u8; SIZE], width: Width, address: u16, value: u16)
         Width::Byte => memory[(address as usize) % SIZE] = (value % 256) as u8,
         Width::Word => {
             let at = ((address / 2 * 2) as usize) % SIZE;
-            memory[at] = (value / 256) as u8;
-            memory[at + 1] = (value % 256) as u8;
+            let [high, low] = value.to_be_bytes();
+            memory[at] = high;
+            memory[at + 1] = low;
         }
     }
 }

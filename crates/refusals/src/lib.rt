@@ -46,7 +46,7 @@ impl Refusal {
         }
     }
 
-    // The block that a refusal names, else 0.
+    // The block that a refusal names, else 0, as C has it.
     #[tactic(auto, unfolding(crate::specs::Refusals::block))]
     pub fn block(self) -> u16
         ensures { result ≡ Refusals.block self }

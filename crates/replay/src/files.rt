@@ -1,4 +1,4 @@
-// Reading a file: its start, as much as the buffer holds. A read that fails is told from the end of the file.
+// Reading a file: its start, as much as the buffer holds.
 ghost use Rattle.std.specs.Prelude.{◌≤◌, length, IfOk};
 
 use crate::system;

@@ -38,7 +38,7 @@ pub fn record_count(file: &[u8]) -> usize
     taken(file).len()
 }
 
-// The file's records, then zeros. The clauses here and of `record_count` stay for `replay_call::run_on`, so the array has its count beside it.
+// The file's records, then zeros. The clauses here and of `record_count` stay for `replay_call::run_between`, so the array has its count beside it.
 pub fn records(file: &[u8]) -> [u32; MOST]
     ensures { result ≡ Pins.records file.now ++ drop (length (Pins.records file.now)) (replicate Pins.most 0) }
 {

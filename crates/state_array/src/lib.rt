@@ -70,7 +70,7 @@ pub fn state_of(words: [u32; STATE_WORDS]) -> State
     held(words).unwrap_or(unfit())
 }
 
-// The words of a state.
+// The words of a state. (Functions, and no `From`: neither the state nor arrays are this crate's.)
 #[tactic(auto, unfolding(image_blocks::specs::Image::fields))]
 pub fn words_of(state: State) -> [u32; STATE_WORDS]
     ensures { result ≡ Image.fields state }
