@@ -11,7 +11,8 @@ pub const LISTED: usize = 256;
 
 pub const PLACES: usize = 2 * LISTED;
 
-// What is found in the bytes before `address`: how many runs have ended, and how long the one is that has not, 0 if there is none.
+// What is found in the bytes before `address`: how many runs have ended, and how long the one is that has not, 0 if there is none: a number, and
+// no `Option`, as `Scan.Holds` adds it to an address.
 #[derive(Clone, Copy)]
 pub struct Found {
     pub address: usize,

@@ -155,7 +155,8 @@ fn checked(block: [u8; BLOCK_SIZE]) -> [u8; BLOCK_SIZE]
     made
 }
 
-// Block `i` of the image.
+// Block `i` of the image. (That `i` is below the blocks' number is asked here and of `check_block`: their loops know it, and a type for it would be made
+// anew at each turn.)
 pub fn block(state: State, lent: &[u8; memory::SIZE], i: usize) -> [u8; BLOCK_SIZE]
     requires { i < Image.block_count }
     ensures { result ≡ Image.block state lent.now i }

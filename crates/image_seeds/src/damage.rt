@@ -62,7 +62,7 @@ fn difference(seed: &mut Seed) -> u16 {
     }
 }
 
-// Adds a difference to word `n` of a block.
+// Adds a difference to word `n` of a block. (Blocks and words by number, as the damage is drawn: types for them would be made at each call.)
 fn change(image: &mut [u8; IMAGE_SIZE], seed: &mut Seed, block: usize, n: usize)
     requires block_bound { block < Image.block_count }
     requires n_bound { n < 256 }

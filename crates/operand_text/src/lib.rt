@@ -31,7 +31,7 @@ fn push_register(text: &mut Text, register: u16)
     push_number(text, register);
 }
 
-// Puts a word or an address behind the text.
+// Puts a word or an address behind the text. (One line, as `listing::push_spaced` with its label: one function of both would be no shorter at its calls.)
 #[tactic(auto, using(text::proofs::Laws::pushes), unfolding(text::specs::Texts::ascii, crate::specs::Kinds::word))]
 fn push_word(text: &mut Text, word: u16)
     requires { Room text.old 5 }
