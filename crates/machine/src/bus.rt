@@ -64,7 +64,8 @@ impl State {
         self.store(memory, Width::Word, self.register_at(n), value);
     }
 
-    // WP takes a value, less its lowest bit.
+    // WP takes a value, less its lowest bit. (This and the next three are a line each, and differ in field and definition: one for all would take
+    // a register's name and match on it.)
     #[tactic(auto, unfolding(crate::specs::Perform::perform, crate::specs::Micro::set))]
     pub fn set_wp(&mut self, value: u16)
         ensures { (v : ℕ) (m : List ℕ) → perform v (Micro.set to_wp value) (at self.old m) ≡ performed tt (at self.new m) }

@@ -1,4 +1,4 @@
-// How the mnemonics are spelled.
+// How the mnemonics are spelled. (Each table has an answer for each arm: no tactic computes the bytes of a literal.)
 #![tactic(auto)]
 
 ghost use Rattle.std.specs.Prelude.{◌≡◌};

@@ -1,5 +1,6 @@
 // Operands as text, kind by kind. The functions take any number of 16 bits for a register or a count, so up to five digits: the longest
 // operand is then `@>FFFF(R65535)`, of 14 bytes, and two of them behind a space and a comma have 30.
+// Each function asks for the room of its own longest text.
 #![tactic(auto)]
 
 ghost use Rattle.std.specs.Prelude.{◌≡◌};
