@@ -12,7 +12,7 @@ pub fn bit(w: u32, n: u32) -> bool
     if n < 32 { (w >> n) % 2 == 1 } else { false }
 }
 
-// `w` with bit `n` made `on`.
+// `w` with bit `n` made `on`. (A number below 16 is asked here and of a few functions of the PSI: a type for it would be made at each call.)
 pub fn put(w: u16, n: u32, on: bool) -> u16
     requires { n < 16 }
     ensures { result ≡ Bits.put n on w }
@@ -21,7 +21,7 @@ pub fn put(w: u16, n: u32, on: bool) -> u16
     w - (w & weight) + ((on as u16) << n)
 }
 
-// The ones of both words.
+// The ones of both words. (These functions of one operator each state its definition bit by bit, which the operators' own contracts don't.)
 pub fn both(a: u16, b: u16) -> u16
     ensures { result ≡ Logic.both a b }
 {

@@ -10,7 +10,7 @@ use differing_runs::{Found, PLACES};
 use image_blocks::{FIELDS, IMAGE_SIZE, LAST, ROM_FIELD};
 use refusals::Refusal;
 
-// Which fields of block 0 differ (weight 2^k for field k), and how many runs of bytes.
+// Which fields of block 0 differ (weight 2^k for field k, as C has them), and how many runs of bytes.
 #[derive(Clone, Copy, Debug, PartialEq, Eq)]
 pub struct Compared {
     pub fields: u32,

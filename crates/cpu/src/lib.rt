@@ -37,17 +37,6 @@ fn execute(state: &mut State, memory: &mut [u8; SIZE], word: u16, allowance: u16
     word
 }
 
-// The same, asked before the call: a word that is no X goes on without one.
-#[tactic(auto, using(machine::proofs::Bind::in_turn), unfolding(crate::specs::Resolve::resolve))]
-fn last_word(state: &mut State, memory: &mut [u8; SIZE], word: u16, allowance: u16) -> u16
-    ensures { (v : ℕ) → perform v (Resolve.resolve allowance word) (at state.old memory.old) ≡ performed result (at state.new memory.new) }
-{
-    if isa::is_x(word) {
-        return execute(state, memory, word, allowance);
-    }
-    word
-}
-
 // Executes a word, with so many X allowed.
 #[tactic(auto, using(machine::proofs::Bind::in_turn, crate::proofs::Laws::resolves), unfolding(machine::specs::Execute::execute))]
 pub fn perform(
@@ -59,6 +48,6 @@ pub fn perform(
 ) -> Deed
     ensures { perform levels (Execute.execute allowance word) (at state.old memory.old) ≡ performed result (at state.new memory.new) }
 {
-    let last = last_word(state, memory, word, allowance);
+    let last = execute(state, memory, word, allowance);
     instructions::perform(state, memory, levels, last)
 }

@@ -20,7 +20,7 @@ pub fn cru_base(state: &mut State, memory: &[u8; SIZE]) -> CruBit
     CruBase(state.register(memory, 12)).bit()
 }
 
-// The `count` lowest bits of `value` go out upwards from a bit, the lowest first.
+// The `count` lowest bits of `value` go out upwards from a bit, the lowest first. (Bit and rest go on step by step, as `Groups.drive_bits` has it; so below.)
 fn drive_bits(state: &mut State, count: u16, bit: CruBit, value: u16)
     ensures { (v : ℕ) (m : List ℕ) → perform v (Groups.drive_bits count bit value) (at state.old m) ≡ performed tt (at state.new m) }
 {

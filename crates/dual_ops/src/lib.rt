@@ -13,7 +13,8 @@ use machine::State;
 use memory::{SIZE, Width};
 use operand::results;
 
-// A: the source is added. (Two functions, and not one with a closure: each contract names its operation, and INC and DEC call them.)
+// A: the source is added. (Two functions, which INC and DEC call too: a second caller of `dual_effect` would
+// keep that large function out of the run's loop.)
 #[tactic(auto, using(machine::proofs::Bind::in_turn), unfolding(machine::specs::Groups::dual_effect))]
 pub fn add(state: &mut State, memory: &mut [u8; SIZE], width: Width, x: u16, to: u16)
     ensures { (v : ℕ) → perform v (Groups.dual_effect Op.A width x to) (at state.old memory.old) ≡ performed tt (at state.new memory.new) }

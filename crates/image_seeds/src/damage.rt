@@ -6,7 +6,8 @@ use image_blocks::IMAGE_SIZE;
 use machine::State;
 use seeds::{Seed, spoiled};
 
-// How many kinds of damage there are, and classes of places. The kinds stay numbers: they are drawn, counted over and printed.
+// How many kinds of damage there are, and classes of places. The kinds stay numbers, which are drawn, counted
+// over and printed: an enum would be turned into them and out of them each time.
 pub const KINDS: u16 = 24;
 
 pub const PLACES: u16 = 3;

@@ -1,5 +1,5 @@
-// What each word's instruction does, and what it was. The words are told apart by their ranges, as `isa` does it; each range's function
-// takes the fields by `isa`'s parts. X is answered as with no allowance left, as unassigned: `cpu` executes it.
+// What each word's instruction does, and what it was. The words are told apart by their ranges, as `isa` does it (by `decode` and a
+// `match` a step took 1.2 times as long: docs/BENCHMARK.md); each range's function takes the fields by `isa`'s parts. X is answered as with no allowance left, as unassigned: `cpu` executes it.
 #![tactic(auto)]
 
 ghost use Rattle.std.specs.Prelude.{◌≡◌, ℕ, eqb, if◌then◌else◌};

@@ -13,7 +13,7 @@ use text::Text;
 // A buffer for a line has at least so many bytes.
 pub const LEAST_BUFFER: usize = 48;
 
-// How many bytes a line has, and how many words its instruction takes.
+// How many bytes of the lent buffer a line has, and how many words its instruction takes.
 #[derive(Clone, Copy, Debug, PartialEq, Eq)]
 pub struct Line {
     pub length: usize,
@@ -27,8 +27,7 @@ fn push_spaced(text: &mut Text, word: u16)
     ensures value { text.new ≡ appended text.old (Listing.spaced (word ∷ [])) }
     ensures grown { Grown text.old text.new 5 }
 {
-    text.push(b" ");
-    text.push_hex(word);
+    text.push_labelled(b" ", word);
 }
 
 // Puts the words that an instruction takes behind the text.

@@ -61,6 +61,10 @@ pub record RunAnswer : Type 0 where
   pub unassigned : ℕ
   pub last : StepAnswer
 
+-- no step done, as the code says it
+abbrev pub no_step : State → Did
+no_step s = record { state = s; steps = 0; unassigned = 0; last = Nothing }
+
 -- the answer that an outcome of `run` is: 0 and what it did, or the refusal's number and state, with no steps
 unfoldable pub run_answer : Result Did Refused → RunAnswer
 run_answer (Ok r) = record { number = 0; state = r.state; steps = r.steps; unassigned = r.unassigned; last = r.last }

@@ -4,6 +4,7 @@
 ghost use Rattle.std.specs.Prelude.{◌≡◌};
 ghost use Rattle.machine.specs.State as Own;
 ghost use Rattle.machine.specs.Perform as Perform;
+ghost use Rattle.machine.specs.Run as Run;
 
 use psi::Psi;
 use refusals::Refusal;
@@ -13,7 +14,7 @@ pub mod bus;
 // A state goes beside the lent memory, as two parameters: a struct that held the `&mut` of the memory would need, in each contract, a clause
 // that it is still the same reference.
 // WP, PC and ST; `flags` has weight 1 where the machine is idle, or weight 2 where the next boundary takes no sample; with both the state
-// is not well formed. Stores at or above `rom` are dropped; it has 32 bits, because another board may have 65536 there.
+// is not well formed, and `State.well_formed` judges any word. Stores at or above `rom` are dropped; it has 32 bits, because another board may have 65536 there.
 #[derive(Clone, Copy)]
 pub struct State {
     pub wp: u16,
@@ -71,7 +72,7 @@ impl State {
 
     pub const FLAGS_LARGEST: u16 = 1 << State::NO_SAMPLE;
 
-    // The read-only address of a machine that has no read-only part.
+    // The read-only address of a machine that has no read-only part (a number, as images and `State.no_rom` have it).
     pub const NO_ROM: u32 = memory::SIZE as u32;
 
     // All fields 0, and nothing read-only.
@@ -116,6 +117,20 @@ pub struct Ran {
     pub steps: usize,
     pub unassigned: usize,
     pub last: StepAnswer,
+}
+
+impl Ran {
+    // No step.
+    pub fn at_once(state: State) -> Ran
+        ensures { result ≡ Run.no_step state }
+    {
+        Ran {
+            state,
+            steps: 0,
+            unassigned: 0,
+            last: StepAnswer::Nothing,
+        }
+    }
 }
 
 // Why a call is refused, and the state that it returns then.

@@ -65,7 +65,7 @@ pub struct Notation {
     pub operands: Operands,
 }
 
-// Three words, one after the other: an instruction's first, and the two behind it.
+// Three words, one after the other: an instruction's first, and the two behind it, as the definitions name them.
 #[derive(Clone, Copy)]
 pub struct Words {
     pub first: u16,

@@ -1,6 +1,6 @@
 // Operands as text, kind by kind. The functions take any number of 16 bits for a register or a count, so up to five digits: the longest
 // operand is then `@>FFFF(R65535)`, of 14 bytes, and two of them behind a space and a comma have 30.
-// Each function asks for the room of its own longest text.
+// Each function asks for the room of its own longest text: no type could carry so many numbers.
 #![tactic(auto)]
 
 ghost use Rattle.std.specs.Prelude.{◌≡◌};
@@ -32,15 +32,14 @@ fn push_register(text: &mut Text, register: u16)
     push_number(text, register);
 }
 
-// Puts a word or an address behind the text. (One line, as `listing::push_spaced` with its label: one function of both would be no shorter at its calls.)
+// Puts a word or an address behind the text.
 #[tactic(auto, using(text::proofs::Laws::pushes), unfolding(text::specs::Texts::ascii, crate::specs::Kinds::word))]
 fn push_word(text: &mut Text, word: u16)
     requires { Room text.old 5 }
     ensures value { text.new ≡ appended text.old (Kinds.word word) }
     ensures grown { Grown text.old text.new 5 }
 {
-    text.push(b">");
-    text.push_hex(word);
+    text.push_labelled(b">", word);
 }
 
 // Puts an index register behind the text; register 0 is none.

@@ -12,8 +12,8 @@ mod cru;
 mod pins;
 
 // The state. `mask` holds the control bit at weight 1 and request n's mask at weight 2^n; `direction` (1: output) and
-// `latch` have port n at weight 2^n; `reading` is the read register. All are words as an image has them, `pending` too: a state need not
-// be well formed.
+// `latch` have port n at weight 2^n; `reading` is the read register. All are words as an image has them, `pending` too: `Formed.well_formed`
+// judges any words.
 #[derive(Clone, Copy)]
 pub struct Psi {
     pub mask: u16,

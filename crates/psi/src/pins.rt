@@ -60,7 +60,8 @@ impl Psi {
         bits::bit(self.mask as u32, n) && self.active(levels, n)
     }
 
-    // The lowest request that is enabled and active, or 0. The search ends where no mask bit is left.
+    // The lowest request that is enabled and active, or 0: a number, as `Pins.request` and the code that follows from it are. The search ends where
+    // no mask bit is left.
     pub fn request(self, levels: u32) -> u16
         ensures { result ≡ Pins.request self levels }
     {

@@ -8,7 +8,7 @@ ghost use Rattle.text.specs.Texts as Texts;
 ghost use Rattle.replay_call.specs.Replay as Replay;
 
 use image_blocks::IMAGE_SIZE;
-use machine::{Ran, Refused, StepAnswer};
+use machine::{Ran, Refused};
 use replay_files::{line, pins};
 use text::Text;
 
@@ -43,15 +43,7 @@ fn numbered(outcome: Result<Ran, Refused>) -> (u16, Ran)
 {
     match outcome {
         Ok(done) => (0, done),
-        Err(refused) => (
-            refused.refusal.number(),
-            Ran {
-                state: refused.state,
-                steps: 0,
-                unassigned: 0,
-                last: StepAnswer::Nothing,
-            },
-        ),
+        Err(refused) => (refused.refusal.number(), Ran::at_once(refused.state)),
     }
 }
 

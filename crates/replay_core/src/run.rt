@@ -4,19 +4,14 @@ ghost use Rattle.machine.specs.Run as Run;
 ghost use Rattle.machine.specs.State.{at};
 ghost use Rattle.replay_core.specs.Runs as Runs;
 
-use machine::{Ran, Refused, Signal, State, StepAnswer};
+use machine::{Ran, Refused, Signal, State};
 use memory::SIZE;
 
 // A step for each record, up to the stop address.
 fn run_steps(memory: &mut [u8; SIZE], state: State, records: &[u32], stop: u16) -> Ran
     ensures { Run.runs stop (length records.now) records.now (at state memory.old) ≡ Runs.ended result memory.new }
 {
-    let mut ran = Ran {
-        state,
-        steps: 0,
-        unassigned: 0,
-        last: StepAnswer::Nothing,
-    };
+    let mut ran = Ran::at_once(state);
     for record in records {
         if ran.state.pc == stop {
             break;
@@ -38,9 +33,10 @@ pub fn run(
 ) -> Result<Ran, Refused>
     ensures { Run.Promised bytes.old state records.now steps stop (Run.run_answer result) bytes.new }
 {
-    if let Err(refusal) = run_rules::check_run(bytes.len(), state, records.len(), steps) {
-        return Err(Refused { refusal, state });
-    }
+    run_rules::check_run(bytes.len(), state, records.len(), steps).map_err(|refusal| Refused {
+        refusal,
+        state,
+    })?;
     let memory = bytes.as_mut_array().unwrap();
     Ok(run_steps(memory, state, &records[..steps], stop))
 }
@@ -51,9 +47,7 @@ pub fn power_up(bytes: &mut [u8]) -> Result<State, Refused>
     ensures bytes_after { bytes.new ≡ (Run.power_up bytes.old).memory }
 {
     let mut state = State::blank();
-    if let Err(refusal) = run_rules::check_power_up(bytes.len()) {
-        return Err(Refused { refusal, state });
-    }
+    run_rules::check_power_up(bytes.len()).map_err(|refusal| Refused { refusal, state })?;
     let memory = bytes.as_mut_array().unwrap();
     boundary::enter(&mut state, memory, Signal::Reset);
     Ok(state)

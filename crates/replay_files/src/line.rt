@@ -18,17 +18,6 @@ fn push_count(text: &mut Text, label: &[u8], n: usize)
     text.push_decimal(n);
 }
 
-// Puts a label and a register behind the text.
-#[tactic(auto, using(text::proofs::Laws::pushes))]
-fn push_register(text: &mut Text, label: &[u8], x: u16)
-    requires { Room text.old (length label.now + 4) }
-    ensures value { text.new ≡ appended text.old (label.now ++ hex x) }
-    ensures grown { Grown text.old text.new (length label.now + 4) }
-{
-    text.push(label);
-    text.push_hex(x);
-}
-
 // Puts the word for the last step's answer behind the text; a level has at most 5 digits.
 #[tactic(auto, using(text::proofs::Laws::pushes, text::proofs::Laws::decimal_16), unfolding(text::specs::Texts::ascii, crate::specs::Line::word))]
 fn push_word(text: &mut Text, last: StepAnswer)
@@ -69,9 +58,9 @@ fn push_registers(text: &mut Text, state: &State)
     ensures value { text.new ≡ appended text.old (Line.registers state.now.pc state.now.wp state.now.st) }
     ensures grown { Grown text.old text.new 24 }
 {
-    push_register(text, b" pc ", state.pc);
-    push_register(text, b" wp ", state.wp);
-    push_register(text, b" st ", state.st);
+    text.push_labelled(b" pc ", state.pc);
+    text.push_labelled(b" wp ", state.wp);
+    text.push_labelled(b" st ", state.st);
 }
 
 // The line of an answer's number, which is 0 where nothing was refused (`Line.text` takes the number), of what was run and the state after it.

@@ -6,7 +6,7 @@ ghost use Rattle.replay_files.specs.Pins as Pins;
 // No more records than these are taken.
 pub const MOST: usize = 16383;
 
-// The stop address: the low half of the first word, or 1 where there is no whole word.
+// The stop address: the low half of the first word, or 1, which is never met, where there is no whole word (`Pins.stop`).
 #[tactic(auto, using(crate::proofs::Words::stop_none, crate::proofs::Words::stop_some))]
 pub fn stop(file: &[u8]) -> u16
     ensures { result ≡ Pins.stop file.now }

@@ -5,7 +5,8 @@ use machine::State;
 use psi::Psi;
 
 // How many ways there are to spoil a state: in the first ones the read-only address stays, up to the second number it still fits an image's
-// word, and all. The ways stay numbers: they are drawn, and the numbers of damage to images begin with them.
+// word, and all. The ways stay numbers: an enum would be made of a drawn number at each call, and be no
+// plainer, since the numbers of damage to images begin with them.
 pub const ROM_STAYS: u16 = 10;
 
 pub const WORD_WAYS: u16 = 12;

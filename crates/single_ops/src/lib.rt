@@ -13,25 +13,17 @@ use machine::State;
 use memory::{SIZE, Width};
 use operand::results;
 
-// ABS: 0 less a negative operand is stored; another stays as it is, with no store.
-#[tactic(auto, using(machine::proofs::Bind::in_turn), unfolding(machine::specs::Groups::store_absolute, alu::specs::Sums::absolute))]
-fn store_absolute(state: &mut State, memory: &mut [u8; SIZE], to: u16, x: u16)
-    ensures { (v : ℕ) → perform v (Groups.store_absolute to x) (at state.old memory.old) ≡ performed tt (at state.new memory.new) }
-{
-    if bits::bit(x as u32, 15) {
-        state.store(memory, Width::Word, to, 0u16.wrapping_sub(x));
-    }
-}
-
-// ABS: the operand is judged, and replaced where it is negative.
-#[tactic(auto, using(machine::proofs::Bind::in_turn), unfolding(machine::specs::Groups::single_effect))]
+// ABS: the operand is judged, and replaced where it is negative; another stays as it is, with no store.
+#[tactic(auto, using(machine::proofs::Bind::in_turn), unfolding(machine::specs::Groups::single_effect, machine::specs::Groups::store_absolute, alu::specs::Sums::absolute))]
 fn make_absolute(state: &mut State, memory: &mut [u8; SIZE], to: u16)
     ensures { (v : ℕ) → perform v (Groups.single_effect Op.Abs to) (at state.old memory.old) ≡ performed tt (at state.new memory.new) }
 {
     let old = state.load(memory, Width::Word, to);
     let outcome = sums::absolute(old, state.st);
     results::set_status(state, outcome.st);
-    store_absolute(state, memory, to, old);
+    if bits::bit(old as u32, 15) {
+        state.store(memory, Width::Word, to, outcome.value);
+    }
 }
 
 // What each operation does at its operand's address; INC and its like are sums and differences with a fixed source.

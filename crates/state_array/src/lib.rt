@@ -9,7 +9,8 @@ use machine::State;
 use psi::Psi;
 use std::num::TryFromIntError;
 
-// The words of a state: WP, PC, ST and flags, then the PSI's, and last the read-only address.
+// The words of a state, as C has them: WP, PC, ST and flags, then the PSI's, and last the read-only address. (Here and in the two functions below
+// field by field: which word is which is to be read.)
 pub const STATE_WORDS: usize = 4 + Psi::WORDS + 1;
 
 // The state whose words these are, if each fits its field: those before the read-only address have 16 bits, and that has 32.

@@ -1,4 +1,5 @@
-// What a step answers: of an executed word, and as the numbers that C knows it by (two of them, so not a `From`).
+// What a step answers: of an executed word, and as the numbers that C knows it by (two of them, so not a `From`, and `missed` is the number that
+// `Answer.missed` adds).
 #![tactic(auto)]
 
 ghost use Rattle.std.specs.Prelude.{◌≡◌};

@@ -1,7 +1,7 @@
 // What the runs are made on.
 ghost use Rattle.std.specs.Prelude.{◌<◌, ◌≤◌};
 
-use machine::{Ran, Refused, State, StepAnswer};
+use machine::{Ran, Refused, State};
 use replay_core::run;
 use seeds::{Seed, Sum};
 
@@ -69,17 +69,12 @@ impl Bench {
         let many = RECORDS + 1 + seed.below(3) as usize;
         let way = seed.below(ways);
         let bad = seed.spoiled(state, way);
-        let (short, state, steps) = match seed.below(5) {
-            0 => (true, state, 1),
-            1 => (true, bad, many),
-            2 => (false, bad, 1),
-            3 => (false, bad, many),
-            _ => (false, state, many),
-        };
-        let size = if short {
-            seed.below(memory::SIZE as u16) as usize
-        } else {
-            memory::SIZE
+        let (size, state, steps) = match seed.below(5) {
+            0 => (seed.below(memory::SIZE as u16) as usize, state, 1),
+            1 => (seed.below(memory::SIZE as u16) as usize, bad, many),
+            2 => (memory::SIZE, bad, 1),
+            3 => (memory::SIZE, bad, many),
+            _ => (memory::SIZE, state, many),
         };
         run_part(bytes, size, state, records, steps)
     }
@@ -101,12 +96,7 @@ pub fn number<T>(answer: &Result<T, Refused>) -> u16 {
 // Adds all that a run answers to the sum, and gives the state that it leaves. A refused run did nothing.
 pub fn mix_run(sum: &mut Sum, answer: Result<Ran, Refused>) -> State {
     sum.mix(number(&answer));
-    let ran = answer.unwrap_or_else(|refused| Ran {
-        state: refused.state,
-        steps: 0,
-        unassigned: 0,
-        last: StepAnswer::Nothing,
-    });
+    let ran = answer.unwrap_or_else(|refused| Ran::at_once(refused.state));
     mix_count(sum, ran.steps);
     mix_count(sum, ran.unassigned);
     sum.mix_answer(ran.last);

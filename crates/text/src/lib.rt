@@ -1,7 +1,7 @@
 // A text put together piece by piece in an array.
 #![tactic(auto)]
 
-ghost use Rattle.std.specs.Prelude.{◌<◌, ◌≡◌, length};
+ghost use Rattle.std.specs.Prelude.{◌<◌, ◌≡◌, length, ◌+◌, ◌++◌};
 ghost use Rattle.text.specs.Texts as Texts;
 
 // The bytes of a text's array: no text is longer.
@@ -54,7 +54,8 @@ impl Text {
         self.length = end;
     }
 
-    // Puts a word behind the text, in four hexadecimal digits.
+    // Puts a word behind the text, in four hexadecimal digits. (Digits by hand here and below: `write!` says which characters come, and not that the
+    // bytes behind them stay.)
     #[tactic(auto, unfolding(crate::specs::Texts::hex))]
     pub fn push_hex(&mut self, x: u16)
         requires { Texts.Room self.old 4 }
@@ -67,6 +68,17 @@ impl Text {
             glyph(x / 0x10 % 16),
             glyph(x % 16),
         ]);
+    }
+
+    // Puts a label behind the text, and then a word in hexadecimal.
+    #[tactic(auto, using(crate::proofs::Laws::pushes))]
+    pub fn push_labelled(&mut self, label: &[u8], x: u16)
+        requires { Texts.Room self.old (length label.now + 4) }
+        ensures value { self.new ≡ Texts.appended self.old (label.now ++ Texts.hex x) }
+        ensures grown { Texts.Grown self.old self.new (length label.now + 4) }
+    {
+        self.push(label);
+        self.push_hex(x);
     }
 
     // Puts a number behind the text, in decimal.

@@ -1,5 +1,5 @@
 // The public calls: power up, run, read an image, write an image, list an instruction, compare two images. Module `exported` has them for C,
-// Fortran and Rust.
+// Fortran and Rust. (Functions, and not names brought in: their contracts stand here together, and must-fail edits change each.)
 #![tactic(auto)]
 
 ghost use Rattle.std.specs.Prelude.{◌≡◌};

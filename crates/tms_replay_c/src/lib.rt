@@ -1,4 +1,5 @@
-// The functions of `include/tms_replay.h`: each is the call of that name of `tms_replay`, with the same clauses.
+// The functions of `include/tms_replay.h`: each is the call of that name of `tms_replay`, with the same clauses. (A static library's
+// exports stand in its own crate, which no other can use.)
 #![tactic(auto)]
 
 ghost use Rattle.std.specs.Prelude.{◌≡◌};

@@ -14,7 +14,7 @@ use Rattle.replay_core.proofs.Runs.{goes_on, latest_step}
 use Rattle.replay_core.proofs.run.run_steps.Goals as goal
 
 pub loop-record-init : goal.loop-record-init
-loop-record-init c = (refl, omega arith, rw (sub-zero) (sym (both_none (at c.args.state c.args.memory.now) _)))
+loop-record-init c = rw c.at_once-ran.ensures (refl, omega arith, rw (sub-zero) (sym (both_none (at c.args.state c.args.memory.now) _)))
 
 pub overflow_add-ran : goal.overflow_add-ran
 overflow_add-ran c = grind (arith, missed_at_most)
@@ -41,11 +41,11 @@ loop-record-preserved c =
 pub returns-then-ran-stop : goal.returns-then-ran-stop
 unfolding both latest
 returns-then-ran-stop c =
-    c.loop-record.invariant.2 ∙ rw (stopped _ _ _ _ (eq-eqb _ _ c.if-ran-stop.true)) (simp add-zero)
+    (rw c.at_once-ran.ensures at c.loop-record.invariant.2) ∙ rw (stopped _ _ _ _ (eq-eqb _ _ c.if-ran-stop.true)) (simp add-zero)
 
 pub returns-after-loop-record : goal.returns-after-loop-record
 unfolding both latest
 returns-after-loop-record c =
-    c.loop-record.invariant.2
+    (rw c.at_once-ran.ensures at c.loop-record.invariant.2)
     ∙ rw (let none : length c.args.records.now - c.loop-record.record-index ≡ 0 = omega arith in none, none_left)
     (simp add-zero)
