@@ -25,7 +25,9 @@ fn check_replaceable(rt: &impl Files, path: &[u8]) -> io::Result<()> {
 }
 
 // The path without its last part.
-fn folder(path: &[u8]) -> &[u8] {
+fn folder(path: &[u8]) -> &[u8]
+    ensures { length result.now ≤ length path.now }
+{
     match path.iter().rposition(|byte| *byte == b'/') {
         Some(slash) => &path[..=slash],
         None => &[],
@@ -34,7 +36,8 @@ fn folder(path: &[u8]) -> &[u8] {
 
 // Puts the path of a temporary beside `path` into the buffer, and returns it.
 fn temporary<'a>(path: &[u8], buffer: &'a mut [u8; NAME]) -> io::Result<&'a mut [u8]>
-    ensures { IfOk result (λ name. 14 ≤ length name.now) }
+    ensures lower_bound { IfOk result (λ name. 14 ≤ length name.now) }
+    ensures upper_bound { IfOk result (λ name. length name.now ≤ 4096) }
 {
     let folder = folder(path);
     let at = folder.len();

@@ -9,12 +9,12 @@ use std::io;
 type Answer = Result<Compared, ComparisonRefused>;
 
 // What comparing two images answered, and what it left in the first and the last places; the sums of all places, and of two calls more.
-#[derive(Drop)]
+#[derive(Clone, Copy)]
 pub struct Outcome {
     pub answer: Answer,
-    ends: [u32; 4],
-    listed: Sum,
-    rest: Sum,
+    pub ends: [u32; 4],
+    pub listed: Sum,
+    pub rest: Sum,
 }
 
 // Adds all places to the sum.
