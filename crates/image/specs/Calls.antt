@@ -1,5 +1,5 @@
 -- The two calls: when they refuse, what they answer, and what the lent bytes are afterwards.
-use Rattle.std.specs.Prelude.{ℕ, zero, suc, ◌+◌, Bool, not, ◌&&◌, ◌||◌, List, length, eqb, if◌then◌else◌, ⊤, Result, Ok, Err}
+use Rattle.std.specs.Prelude.{ℕ, zero, suc, ◌+◌, Bool, not, ◌&&◌, ◌||◌, List, length, eqb, if◌then◌else◌, Result, Ok, Err}
 use Rattle.refusals.specs.declared.Refusal.{Refusal}
 use Rattle.refusals.specs.Refusals.{number, block, number_of, block_of}
 use Rattle.memory.specs.Memory.{size}
@@ -34,10 +34,9 @@ unfoldable pub read_answer : Result State Refused → ReadAnswer
 read_answer (Ok s) = record { number = 0; block = 0; state = s }
 read_answer (Err e) = record { number = number e.refusal; block = block e.refusal; state = e.state }
 
--- the state is the caller's own where writing was accepted
-unfoldable pub write_answer : State → Result ⊤ Refused → WriteAnswer
-write_answer s (Ok a) = record { number = 0; state = s }
-write_answer s (Err e) = record { number = number e.refusal; state = e.state }
+unfoldable pub write_answer : Result State Refused → WriteAnswer
+write_answer (Ok s) = record { number = 0; state = s }
+write_answer (Err e) = record { number = number e.refusal; state = e.state }
 
 -- a refusal that names no block
 abbrev pub fault : ℕ → Fault

@@ -111,9 +111,9 @@ fn fill_image(state: State, lent: &[u8; memory::SIZE], image: &mut [u8; IMAGE_SI
     }
 }
 
-// Writes an image of the state and the lent memory. A refusal gives the state back, and leaves the buffer.
-pub fn write_image(state: State, bytes: &[u8], image: &mut [u8]) -> Result<(), Refused>
-    ensures value { Calls.write_answer state result ≡ (Calls.write state bytes.now image.old).answer }
+// Writes an image of the state and the lent memory. It gives the state back, accepted or refused; a refusal leaves the buffer.
+pub fn write_image(state: State, bytes: &[u8], image: &mut [u8]) -> Result<State, Refused>
+    ensures value { Calls.write_answer result ≡ (Calls.write state bytes.now image.old).answer }
     ensures image_after { image.new ≡ (Calls.write state bytes.now image.old).image }
 {
     let refused = |refusal| Refused { refusal, state };
@@ -123,5 +123,5 @@ pub fn write_image(state: State, bytes: &[u8], image: &mut [u8]) -> Result<(), R
         return Err(refused(Refusal::State));
     }
     fill_image(state, lent, buffer);
-    Ok(())
+    Ok(state)
 }

@@ -20,9 +20,26 @@ const PINS_BUFFER: usize = 4 * (1 + pins::MOST);
 // As many bytes as hold any path.
 const PATH: usize = 4096;
 
-// Reads both files, runs, writes the image after, if there is one, and then prints the line.
+// Runs, writes the image after, if there is one, and then prints the line. (A function of its own, so that reading the files needs no more of
+// the stack than their buffers.)
 fn replay<'a>(
-    rt: &(impl Files + Print),
+    rt: &(impl Files + Print + Eprint),
+    before: &[u8],
+    file: &[u8],
+    out: &'a [u8],
+) -> Result<(), Failure<'a>> {
+    let mut after = [0u8; image_blocks::IMAGE_SIZE];
+    let done = replay_call::replay(before, file, &mut after);
+    if done.number == 0 {
+        output::replace(rt, out, &after)?;
+    }
+    rt.write_all(done.text.as_bytes())
+        .map_err(|e| Failure::Of(b"standard output", e))
+}
+
+// Reads both files, and replays.
+fn replay_files<'a>(
+    rt: &(impl Files + Print + Eprint),
     image: &'a [u8],
     pins: &'a [u8],
     out: &'a [u8],
@@ -31,13 +48,7 @@ fn replay<'a>(
     let before = files::load(rt, image, &mut image_buffer).map_err(|e| Failure::Of(image, e))?;
     let mut pins_buffer = [0u8; PINS_BUFFER];
     let file = files::load(rt, pins, &mut pins_buffer).map_err(|e| Failure::Of(pins, e))?;
-    let mut after = [0u8; image_blocks::IMAGE_SIZE];
-    let done = replay_call::replay(before, file, &mut after);
-    if done.number == 0 {
-        output::replace(rt, out, &after).map_err(|e| Failure::Of(out, e))?;
-    }
-    rt.write_all(done.text.as_bytes())
-        .map_err(|e| Failure::Of(b"standard output", e))
+    replay(rt, before, file, out)
 }
 
 // Argument `i`, in the buffer; messages name it `name`.
@@ -52,7 +63,7 @@ fn argument<'a>(
 
 // The program on its arguments, which the buffers hold.
 fn run<'a>(
-    rt: &(impl Env + Files + Print),
+    rt: &(impl Env + Files + Print + Eprint),
     image: &'a mut [u8; PATH],
     pins: &'a mut [u8; PATH],
     out: &'a mut [u8; PATH],
@@ -63,7 +74,7 @@ fn run<'a>(
     let image = argument(rt, 1, b"IMAGE", image)?;
     let pins = argument(rt, 2, b"PINS", pins)?;
     let out = argument(rt, 3, b"OUT", out)?;
-    replay(rt, image, pins, out)
+    replay_files(rt, image, pins, out)
 }
 
 fn main(rt: HostRuntime) {
@@ -71,6 +82,6 @@ fn main(rt: HostRuntime) {
     let mut pins = [0u8; PATH];
     let mut out = [0u8; PATH];
     if let Err(failure) = run(&rt, &mut image, &mut pins, &mut out) {
-        let _ = eprintln!(rt; "{failure}");
+        failure.tell(&rt);
     }
 }

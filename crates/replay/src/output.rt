@@ -1,6 +1,7 @@
 // The output file: written whole beside its place, then renamed into it, so that it is never half written.
 ghost use Rattle.std.specs.Prelude.{◌≤◌, length, IfOk};
 
+use crate::failure::Failure;
 use crate::system;
 use std::fs::{Files, OpenFile};
 use std::io;
@@ -73,15 +74,21 @@ fn fill(mut file: impl Write + OpenFile + Drop, bytes: &[u8]) -> io::Result<()> 
     file.sync_all()
 }
 
-// Puts the bytes in the file's place at once. Where that fails, the file stays as it was.
-pub fn replace(rt: &impl Files, path: &[u8], bytes: &[u8]) -> io::Result<()> {
-    check_replaceable(rt, path)?;
+// Puts the bytes in the file's place at once. Where that fails, the file stays as it was; where there is a temporary, the message is printed before
+// that goes.
+pub fn replace<'a>(
+    rt: &(impl Files + Eprint),
+    path: &'a [u8],
+    bytes: &[u8],
+) -> Result<(), Failure<'a>> {
+    check_replaceable(rt, path).map_err(|e| Failure::Of(path, e))?;
     let mut buffer = [0u8; NAME];
-    let name = temporary(path, &mut buffer)?;
-    let file = create(rt, name)?;
-    let done = fill(file, bytes).and_then(|()| system::rename(rt, name, path));
-    if done.is_err() {
+    let name = temporary(path, &mut buffer).map_err(|e| Failure::Of(path, e))?;
+    let file = create(rt, name).map_err(|e| Failure::Of(path, e))?;
+    if let Err(error) = fill(file, bytes).and_then(|()| system::rename(rt, name, path)) {
+        Failure::Of(path, error).tell(rt);
         let _ = system::unlink(rt, name);
+        return Err(Failure::Told);
     }
-    done
+    Ok(())
 }

@@ -1,5 +1,5 @@
 -- The program's definition, from what the three calls give: it ends at the first that is refused.
-use Rattle.std.specs.Prelude.{Ok, Err, ⊤}
+use Rattle.std.specs.Prelude.{Ok, Err}
 use Prim.Native.Nat.{ℕ}
 use mathlib.Core.Path.{◌≡◌, sym, ap, ◌∙◌}
 use mathlib.Core.List.{List, ◌++◌}
@@ -42,13 +42,13 @@ module _ (image m pins after : List ℕ) where
 
     module _ (d : Ran) (x : List ℕ)
         (r : Promised lent s (Pins.records pins) (length (Pins.records pins)) (Pins.stop pins) (run_answer (Ok d)) x) where
-      pub write_refused : (e : Refused) (img : List ℕ) → write_answer d.state (Err e) ≡ (write d.state x after).answer → img ≡ (write d.state x after).image
+      pub write_refused : (e : Refused) (img : List ℕ) → write_answer (Err e) ≡ (write d.state x after).answer → img ≡ (write d.state x after).image
           → told (run_answer (Err e)) img ≡ replay_in m image pins after
       unfolding replay_in read_answer run_answer write_answer
       write_refused e img w i =
           rw (← h, ← l, ← r, ← w, ne_eqb _ 0 (never_0 e.refusal), i, refused_image d.state x after (λ z. never_0 e.refusal (ap (λ (a : WriteAnswer). a.number) w ∙ z)))
 
-      pub accepted : (img : List ℕ) → write_answer d.state (Ok tt) ≡ (write d.state x after).answer → img ≡ (write d.state x after).image
+      pub accepted : (s' : State) (img : List ℕ) → write_answer (Ok s') ≡ (write d.state x after).answer → img ≡ (write d.state x after).image
           → told (run_answer (Ok d)) img ≡ replay_in m image pins after
       unfolding replay_in read_answer run_answer write_answer
-      accepted img w i = rw (← h, ← l, ← r, ← w, i)
+      accepted s' img w i = rw (← h, ← l, ← r, ← w, i)

@@ -100,7 +100,7 @@ fn mix_read(sum: &mut Sum, answer: Answer) {
 
 // Writes an image; answers the state that was written.
 fn write(state: State, bytes: &[u8], image: &mut [u8]) -> Answer {
-    image::write_image(state, bytes, image).map(|()| state)
+    image::write_image(state, bytes, image)
 }
 
 // Writes from a part of the memory into a part of the image.

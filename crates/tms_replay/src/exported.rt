@@ -98,7 +98,7 @@ pub fn tms_write_image(state: &[u32; STATE_WORDS], memory: &[u8], image: &mut [u
     ensures image_after { image.new ≡ (Exported.write state.now memory.now image.old).image }
 {
     match super::write_image(state_of(*state), memory, image) {
-        Ok(()) => 0,
+        Ok(_) => 0,
         Err(refused) => refused.refusal.number(),
     }
 }

@@ -46,8 +46,8 @@ pub fn read_image(image: &[u8], bytes: &mut [u8]) -> Result<State, Refused>
 }
 
 // Writes an image of the state and the lent memory.
-pub fn write_image(state: State, bytes: &[u8], image: &mut [u8]) -> Result<(), Refused>
-    ensures value { Calls.write_answer state result ≡ (Calls.write state bytes.now image.old).answer }
+pub fn write_image(state: State, bytes: &[u8], image: &mut [u8]) -> Result<State, Refused>
+    ensures value { Calls.write_answer result ≡ (Calls.write state bytes.now image.old).answer }
     ensures image_after { image.new ≡ (Calls.write state bytes.now image.old).image }
 {
     image::write_image(state, bytes, image)

@@ -2,6 +2,7 @@
 use Rattle.std.proofs.Common.{◌≡◌, Ok, Err, rules}
 use mathlib.Core.List.{List}
 use Prim.Native.Nat.{ℕ}
+use Rattle.machine.specs.declared.State.{State}
 use Rattle.machine.specs.declared.Refused.{Refused}
 use Rattle.machine.specs.Run.{Promised, run_answer}
 use Rattle.replay_call.proofs.Parts.{first, read_refused, run_refused, write_refused, accepted}
@@ -33,7 +34,7 @@ pub returns : goal.returns
 returns c =
     let begun : c.read_image.result ≡ Ok c.in_ok-start.start = search rules in
     let run : c.run.result ≡ Ok c.in_ok-ran.ran = search rules in
-    let wrote : c.write_image.result ≡ Ok tt = search rules in
+    let (s, wrote) : (s : State) × (c.write_image.result ≡ Ok s) = search rules in
     let n = c.record_count-n in
     let taken = first _ _ n.result n.ensures.value c.records-records.ensures in
-    accepted _ _ _ _ c.in_ok-start.start _ (rw begun at c.read_image.ensures.value) c.read_image.ensures.bytes_after c.in_ok-ran.ran _ (rw (run, taken, n.ensures.value, c.stop.ensures) at c.run.ensures) _ (rw wrote at c.write_image.ensures.value) c.write_image.ensures.image_after
+    accepted _ _ _ _ c.in_ok-start.start _ (rw begun at c.read_image.ensures.value) c.read_image.ensures.bytes_after c.in_ok-ran.ran _ (rw (run, taken, n.ensures.value, c.stop.ensures) at c.run.ensures) s _ (rw wrote at c.write_image.ensures.value) c.write_image.ensures.image_after
