@@ -3,6 +3,7 @@
 
 ghost use Rattle.std.specs.Prelude.{◌<◌};
 
+pub mod lines;
 mod records;
 pub mod roms;
 pub mod spoiled;

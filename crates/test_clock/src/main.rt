@@ -7,8 +7,7 @@ ghost use Rattle.std.specs.Prelude.{◌≤◌};
 
 use psi::Psi;
 use seeds::states::CLOCK_NUMBERS;
-use seeds::{Seed, Sum};
-use std::io;
+use seeds::{Seed, Sum, lines};
 
 // The seed of all that is drawn.
 const SEED: u32 = 9901;
@@ -93,7 +92,7 @@ fn far_cycles(seed: &mut Seed) -> u32 {
 }
 
 // A line of the first part: the number of its first case, in how many cases pending became 1, and the sum of all its cases.
-fn near_line(rt: &impl Print, seed: &mut Seed, first: u32) -> io::Result<()> {
+fn near_line(rt: &impl Print, seed: &mut Seed, first: u32) {
     let mut sum = Sum::ZERO;
     let mut pended = 0u32;
     for _ in 0..NEAR_CASES {
@@ -108,7 +107,9 @@ fn near_line(rt: &impl Print, seed: &mut Seed, first: u32) -> io::Result<()> {
             pended = pended.wrapping_add(1);
         }
     }
-    println!(rt; "{first} {pended} {sum}")
+    lines::number(rt, first);
+    lines::number(rt, pended);
+    lines::last(rt, sum);
 }
 
 // The load of a line of the second part.
@@ -123,7 +124,7 @@ fn far_load(seed: &mut Seed, line: u32) -> u16 {
 }
 
 // A line of the second part: its start, the cycles of its last case and the clock after them, and the sum of all its cases.
-fn far_line(rt: &impl Print, seed: &mut Seed, line: u32) -> io::Result<()> {
+fn far_line(rt: &impl Print, seed: &mut Seed, line: u32) {
     let load = far_load(seed, line);
     let before = start(seed, load);
     let mut sum = Sum::ZERO;
@@ -136,29 +137,28 @@ fn far_line(rt: &impl Print, seed: &mut Seed, line: u32) -> io::Result<()> {
         sum.mix(cycles);
         sum.mix_psi(after);
     }
-    print!(rt;
-        "{} {} {} {cycles} ",
-        before.load, before.decrementer, before.phase
-    )?;
-    print!(rt;
-        "{} {} {} {} ",
-        after.decrementer, after.reading, after.phase, after.pending
-    )?;
-    println!(rt; "{sum}")
+    lines::number(rt, before.load);
+    lines::number(rt, before.decrementer);
+    lines::number(rt, before.phase);
+    lines::number(rt, cycles);
+    lines::number(rt, after.decrementer);
+    lines::number(rt, after.reading);
+    lines::number(rt, after.phase);
+    lines::number(rt, after.pending);
+    lines::last(rt, sum);
 }
 
 // Both parts.
-fn all(rt: &impl Print) -> io::Result<()> {
+fn all(rt: &impl Print) {
     let mut seed = Seed::new(SEED);
     for line in 0..NEAR_LINES {
-        near_line(rt, &mut seed, line * NEAR_CASES)?;
+        near_line(rt, &mut seed, line * NEAR_CASES);
     }
     for line in 0..FAR_LINES {
-        far_line(rt, &mut seed, line)?;
+        far_line(rt, &mut seed, line);
     }
-    Ok(())
 }
 
 fn main(rt: HostRuntime) {
-    let _ = all(&rt);
+    all(&rt);
 }

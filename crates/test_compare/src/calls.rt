@@ -2,8 +2,7 @@
 use comparison::{Compared, ComparisonRefused};
 use differing_runs::PLACES;
 use image_blocks::IMAGE_SIZE;
-use seeds::Sum;
-use std::io;
+use seeds::{Sum, lines};
 
 // What a comparison answers.
 type Answer = Result<Compared, ComparisonRefused>;
@@ -74,11 +73,10 @@ pub fn compare(
 }
 
 // Prints the numbers of an answer.
-fn show_answer(rt: &impl Print, answer: Answer) -> io::Result<()> {
+fn show_answer(rt: &impl Print, answer: Answer) {
     for number in numbers(answer) {
-        print!(rt; "{number} ")?;
+        lines::number(rt, number);
     }
-    Ok(())
 }
 
 impl Outcome {
@@ -93,25 +91,21 @@ impl Outcome {
     }
 
     // A line with it.
-    pub fn show(&self, rt: &impl Print) -> io::Result<()> {
-        show_answer(rt, self.answer)?;
+    pub fn show(&self, rt: &impl Print) {
+        show_answer(rt, self.answer);
         for end in self.ends {
-            print!(rt; "{end} ")?;
+            lines::number(rt, end);
         }
-        println!(rt; "{} {}", self.listed, self.rest)
+        lines::sum(rt, self.listed);
+        lines::last(rt, self.rest);
     }
 }
 
 // A line with one call's answer, and the sum of the places.
-pub fn show_call(
-    rt: &impl Print,
-    first: &[u8],
-    second: &[u8],
-    places: &mut [u32; PLACES],
-) -> io::Result<()> {
+pub fn show_call(rt: &impl Print, first: &[u8], second: &[u8], places: &mut [u32; PLACES]) {
     let answer = comparison::compare_images(first, second, places);
-    show_answer(rt, answer)?;
+    show_answer(rt, answer);
     let mut listed = Sum::ZERO;
     mix_places(&mut listed, places);
-    println!(rt; "{listed}")
+    lines::last(rt, listed);
 }

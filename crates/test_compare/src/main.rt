@@ -9,8 +9,7 @@ use image_seeds::damage;
 use machine::State;
 use pairs::{Damaged, Pair};
 use patterns::Pattern;
-use seeds::{Seed, Sum};
-use std::io;
+use seeds::{Seed, Sum, lines};
 
 mod calls;
 mod fields;
@@ -83,42 +82,41 @@ impl Bench {
     }
 
     // A pair shown by itself.
-    fn show(&mut self, rt: &impl Print, pair: Pair) -> io::Result<()> {
-        self.one(pair).show(rt)
+    fn show(&mut self, rt: &impl Print, pair: Pair) {
+        self.one(pair).show(rt);
     }
 
     // All that are shown so: those with a chosen pattern, those that differ in one field, those that differ in the edition at most, and
     // those with each kind of damage.
-    fn show_all(&mut self, rt: &impl Print) -> io::Result<()> {
+    fn show_all(&mut self, rt: &impl Print) {
         for row in patterns::CHOSEN {
             let pattern = Pattern::runs(row);
-            self.show(rt, Pair::whole(pattern, 0, EDITION, EDITION))?;
+            self.show(rt, Pair::whole(pattern, 0, EDITION, EDITION));
         }
         for k in fields::FIRST..fields::END {
             for first in EDITIONS {
                 for second in EDITIONS {
-                    self.show(rt, Pair::whole(Pattern::NOTHING, 1 << k, first, second))?;
+                    self.show(rt, Pair::whole(Pattern::NOTHING, 1 << k, first, second));
                 }
             }
         }
         for first in EDITIONS {
             for second in EDITIONS {
-                self.show(rt, Pair::of_editions(first, second))?;
+                self.show(rt, Pair::of_editions(first, second));
             }
         }
         for kind in 0..damage::KINDS {
             for which in [Damaged::First, Damaged::Second, Damaged::Both] {
                 for edition in EDITIONS {
                     let pair = Pair::damaged(&mut self.seed, kind, which, edition);
-                    self.show(rt, pair)?;
+                    self.show(rt, pair);
                 }
             }
         }
-        Ok(())
     }
 
     // Parts of all lengths, of a pair without damage, and of one whose first image is refused for its filler.
-    fn show_parts(&mut self, rt: &impl Print) -> io::Result<()> {
+    fn show_parts(&mut self, rt: &impl Print) {
         for kind in [damage::NONE, damage::FILLER] {
             let pair = Pair::first_damaged(&mut self.seed, kind);
             self.make(pair);
@@ -126,15 +124,14 @@ impl Bench {
             let seconds = longer(&self.second);
             for first in parts(&firsts) {
                 for second in parts(&seconds) {
-                    calls::show_call(rt, first, second, &mut self.places)?;
+                    calls::show_call(rt, first, second, &mut self.places);
                 }
             }
         }
-        Ok(())
     }
 
     // A line: some pairs, how many were accepted, and the sum of what came of all.
-    fn line(&mut self, rt: &impl Print) -> io::Result<()> {
+    fn line(&mut self, rt: &impl Print) {
         let mut accepted = 0u64;
         let mut sum = Sum::ZERO;
         for _ in 0..PAIRS {
@@ -145,12 +142,13 @@ impl Bench {
                 accepted = accepted.wrapping_add(1);
             }
         }
-        println!(rt; "{accepted} {sum}")
+        lines::number(rt, accepted);
+        lines::last(rt, sum);
     }
 }
 
 // All parts.
-fn all(rt: &impl Print) -> io::Result<()> {
+fn all(rt: &impl Print) {
     let mut bench = Bench {
         bytes: [0; memory::SIZE],
         first: [0; IMAGE_SIZE],
@@ -158,14 +156,13 @@ fn all(rt: &impl Print) -> io::Result<()> {
         places: [u32::MAX; PLACES],
         seed: Seed::new(256),
     };
-    bench.show_all(rt)?;
-    bench.show_parts(rt)?;
+    bench.show_all(rt);
+    bench.show_parts(rt);
     for _ in 0..LINES {
-        bench.line(rt)?;
+        bench.line(rt);
     }
-    Ok(())
 }
 
 fn main(rt: HostRuntime) {
-    let _ = all(&rt);
+    all(&rt);
 }

@@ -8,8 +8,7 @@ use image_blocks::IMAGE_SIZE;
 use image_seeds::damage;
 use image_seeds::damage::Case;
 use machine::{Refused, State};
-use seeds::{Seed, Sum, spoiled};
-use std::io;
+use seeds::{Seed, Sum, lines, spoiled};
 
 // Lines of the second part of the output, and cases of one of them.
 const LINES: u32 = 128;
@@ -196,11 +195,16 @@ impl Bench {
     }
 
     // A case shown by itself.
-    fn show(&mut self, rt: &impl Print, case: Case) -> io::Result<()> {
+    fn show(&mut self, rt: &impl Print, case: Case) {
         let outcome = self.one(case);
         let [number, block] = numbers(&outcome.read);
-        print!(rt; "{} {} {number} {block} ", case.kind, case.edition)?;
-        println!(rt; "{} {} {}", outcome.answers, outcome.memory, outcome.image)
+        lines::number(rt, case.kind);
+        lines::number(rt, case.edition);
+        lines::number(rt, number);
+        lines::number(rt, block);
+        lines::sum(rt, outcome.answers);
+        lines::sum(rt, outcome.memory);
+        lines::last(rt, outcome.image);
     }
 
     // Any case; of the kinds about half are none.
@@ -213,7 +217,7 @@ impl Bench {
     }
 
     // A line: some cases, how many were accepted, and the sum.
-    fn line(&mut self, rt: &impl Print) -> io::Result<()> {
+    fn line(&mut self, rt: &impl Print) {
         let mut accepted = 0u64;
         let mut sum = Sum::ZERO;
         for _ in 0..CASES {
@@ -224,7 +228,8 @@ impl Bench {
                 accepted = accepted.wrapping_add(1);
             }
         }
-        println!(rt; "{accepted} {sum}")
+        lines::number(rt, accepted);
+        lines::last(rt, sum);
     }
 }
 
@@ -244,27 +249,28 @@ fn read_longer(image: &[u8; LONG_IMAGE], bytes: &mut [u8; LONG_MEMORY]) -> [Answ
 }
 
 // Shows the number of a call's refusal.
-fn show_number(rt: &impl Print, answer: Answer) -> io::Result<()> {
+fn show_number(rt: &impl Print, answer: Answer) {
     let [number, _] = numbers(&answer);
-    print!(rt; "{number} ")
+    lines::number(rt, number);
 }
 
 // The four calls, and the bytes, which they leave.
-fn show_longer(rt: &impl Print) -> io::Result<()> {
+fn show_longer(rt: &impl Print) {
     let mut bytes = [0; LONG_MEMORY];
     let mut image = [0; LONG_IMAGE];
     for answer in write_longer(&bytes, &mut image) {
-        show_number(rt, answer)?;
+        show_number(rt, answer);
     }
     for answer in read_longer(&image, &mut bytes) {
-        show_number(rt, answer)?;
+        show_number(rt, answer);
     }
-    println!(rt; "{} {}", Sum::of_bytes(&bytes), Sum::of_bytes(&image))
+    lines::sum(rt, Sum::of_bytes(&bytes));
+    lines::last(rt, Sum::of_bytes(&image));
 }
 
 // Every kind of damage in every class of places in either edition, and then many cases.
-fn all(rt: &impl Print) -> io::Result<()> {
-    show_longer(rt)?;
+fn all(rt: &impl Print) {
+    show_longer(rt);
     let mut bench = Bench {
         bytes: [0; memory::SIZE],
         image: [0; IMAGE_SIZE],
@@ -279,16 +285,15 @@ fn all(rt: &impl Print) -> io::Result<()> {
                     kind,
                     place,
                 };
-                bench.show(rt, case)?;
+                bench.show(rt, case);
             }
         }
     }
     for _ in 0..LINES {
-        bench.line(rt)?;
+        bench.line(rt);
     }
-    Ok(())
 }
 
 fn main(rt: HostRuntime) {
-    let _ = all(&rt);
+    all(&rt);
 }

@@ -11,8 +11,7 @@ use listing::{LEAST_BUFFER, Line};
 use memory::Width;
 use notation::Words;
 use refusals::Refusal;
-use seeds::{Seed, Sum};
-use std::io;
+use seeds::{Seed, Sum, lines};
 
 // Lines that are shown, and the factor that varies the bits of a word within its step.
 const SHOWN: u16 = 108;
@@ -105,7 +104,7 @@ fn put(bytes: &mut [u8; memory::SIZE], address: u16, words: Words) {
 }
 
 // Shows the line of a word that two others follow.
-fn show(rt: &impl Print, bytes: &mut [u8; memory::SIZE], first: u16) -> io::Result<()> {
+fn show(rt: &impl Print, bytes: &mut [u8; memory::SIZE], first: u16) {
     let words = Words {
         first,
         second: SHOWN_SECOND,
@@ -114,9 +113,9 @@ fn show(rt: &impl Print, bytes: &mut [u8; memory::SIZE], first: u16) -> io::Resu
     put(bytes, SHOWN_AT, words);
     let mut text = [0; LEAST_BUFFER];
     if let Ok(line) = listing::list(bytes, SHOWN_AT, &mut text) {
-        rt.write_all(&text[..line.length])?;
+        let _ = rt.write_all(&text[..line.length]);
     }
-    rt.write_all(b"\n")
+    let _ = rt.write_all(b"\n");
 }
 
 // Bits within a step, for the word of line `n`.
@@ -247,7 +246,7 @@ impl Bench {
     }
 
     // A line: new memory, its words, and the sums. (No word is above 65535.)
-    fn line(&mut self, rt: &impl Print, pass: Pass, first: u16) -> io::Result<()>
+    fn line(&mut self, rt: &impl Print, pass: Pass, first: u16)
         requires { first ≤ 63488 }
     {
         self.seed.fill(&mut self.bytes);
@@ -259,15 +258,18 @@ impl Bench {
         for i in 0..WORDS {
             self.one(pass, first + i, &mut tally);
         }
-        println!(rt; "{first} {} {} {}", tally.accepted, tally.length, tally.sum)
+        lines::number(rt, first);
+        lines::number(rt, tally.accepted);
+        lines::number(rt, tally.length);
+        lines::last(rt, tally.sum);
     }
 }
 
 // The shown lines, and all passes.
-fn all(rt: &impl Print) -> io::Result<()> {
+fn all(rt: &impl Print) {
     let mut bytes = [0; memory::SIZE];
     for n in 0..SHOWN {
-        show(rt, &mut bytes, shown_word(n))?;
+        show(rt, &mut bytes, shown_word(n));
     }
     let mut bench = Bench {
         bytes: [0; memory::SIZE],
@@ -275,12 +277,11 @@ fn all(rt: &impl Print) -> io::Result<()> {
     };
     for pass in PASSES {
         for line in 0..LINES {
-            bench.line(rt, pass, line * WORDS)?;
+            bench.line(rt, pass, line * WORDS);
         }
     }
-    Ok(())
 }
 
 fn main(rt: HostRuntime) {
-    let _ = all(&rt);
+    all(&rt);
 }

@@ -5,8 +5,7 @@ use crate::programs::Theme;
 use machine::State;
 use memory::Width;
 use psi::Psi;
-use seeds::{Seed, Sum};
-use std::io;
+use seeds::{Seed, Sum, lines};
 
 // Lines of the output, memories of a line, cases on a memory, steps of a case.
 pub const LINES: u32 = 64;
@@ -92,7 +91,7 @@ fn one(bench: &mut Bench, tally: &mut Tally) {
 }
 
 // A line: some memories, the counts, and the sum.
-pub fn line(rt: &impl Print, bench: &mut Bench) -> io::Result<()> {
+pub fn line(rt: &impl Print, bench: &mut Bench) {
     let mut tally = Tally {
         sum: Sum::ZERO,
         moved: 0,
@@ -101,5 +100,7 @@ pub fn line(rt: &impl Print, bench: &mut Bench) -> io::Result<()> {
     for _ in 0..MEMORIES {
         one(bench, &mut tally);
     }
-    println!(rt; "{} {} {}", tally.moved, tally.frozen, tally.sum)
+    lines::number(rt, tally.moved);
+    lines::number(rt, tally.frozen);
+    lines::last(rt, tally.sum);
 }

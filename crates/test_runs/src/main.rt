@@ -6,8 +6,7 @@ use bench::{Bench, RECORDS, mix_run, number, run_step};
 use machine::{Ran, Refused, State};
 use programs::Theme;
 use replay_core::run;
-use seeds::{Seed, Sum, spoiled};
-use std::io;
+use seeds::{Seed, Sum, lines, spoiled};
 
 mod bench;
 mod clock_mode;
@@ -133,7 +132,7 @@ fn one(bench: &mut Bench, tally: &mut Tally) {
 }
 
 // A line: some memories, and the sums.
-fn line(rt: &impl Print, bench: &mut Bench) -> io::Result<()> {
+fn line(rt: &impl Print, bench: &mut Bench) {
     let mut tally = Tally {
         sum: Sum::ZERO,
         steps: 0,
@@ -142,11 +141,13 @@ fn line(rt: &impl Print, bench: &mut Bench) -> io::Result<()> {
     for _ in 0..MEMORIES {
         one(bench, &mut tally);
     }
-    println!(rt; "{} {} {}", tally.steps, tally.unassigned, tally.sum)
+    lines::number(rt, tally.steps);
+    lines::number(rt, tally.unassigned);
+    lines::last(rt, tally.sum);
 }
 
 // Calls on memories of another size than the machine's.
-fn other_sizes(rt: &impl Print) -> io::Result<()> {
+fn other_sizes(rt: &impl Print) {
     let mut long = [0u8; memory::SIZE + 1];
     let up = run::power_up(&mut long);
     let ran = run::run(&mut long, State::blank(), &[0], 1, 1);
@@ -154,32 +155,33 @@ fn other_sizes(rt: &impl Print) -> io::Result<()> {
     let up_short = run::power_up(&mut short);
     let mut state = Sum::ZERO;
     state.mix_state(left(up));
-    let memory = Sum::of_bytes(&long);
-    print!(rt; "{} {} {} ", number(&up), number(&ran), number(&up_short))?;
-    println!(rt; "{state} {memory}")
+    lines::number(rt, number(&up));
+    lines::number(rt, number(&ran));
+    lines::number(rt, number(&up_short));
+    lines::sum(rt, state);
+    lines::last(rt, Sum::of_bytes(&long));
 }
 
 // All parts.
-fn all(rt: &impl Print) -> io::Result<()> {
+fn all(rt: &impl Print) {
     let mut bench = Bench {
         bytes: [0; memory::SIZE],
         copy: [0; memory::SIZE],
         records: [0; RECORDS],
         seed: Seed::new(9900),
     };
-    other_sizes(rt)?;
+    other_sizes(rt);
     for _ in 0..LINES {
-        line(rt, &mut bench)?;
+        line(rt, &mut bench);
     }
     for _ in 0..clock_mode::LINES {
-        clock_mode::line(rt, &mut bench)?;
+        clock_mode::line(rt, &mut bench);
     }
     for _ in 0..read_only::LINES {
-        read_only::line(rt, &mut bench)?;
+        read_only::line(rt, &mut bench);
     }
-    Ok(())
 }
 
 fn main(rt: HostRuntime) {
-    let _ = all(&rt);
+    all(&rt);
 }

@@ -4,8 +4,7 @@ use crate::bench::{Bench, mix_run, run_step};
 use crate::programs::Theme;
 use machine::State;
 use replay_core::run;
-use seeds::{Seed, Sum, spoiled};
-use std::io;
+use seeds::{Seed, Sum, lines, spoiled};
 
 // Lines of the output, memories of a line, cases on a memory, steps of a case.
 pub const LINES: u32 = 64;
@@ -101,7 +100,7 @@ fn one(bench: &mut Bench, tally: &mut Tally) {
 }
 
 // A line: some memories, the count, and the sum.
-pub fn line(rt: &impl Print, bench: &mut Bench) -> io::Result<()> {
+pub fn line(rt: &impl Print, bench: &mut Bench) {
     let mut tally = Tally {
         sum: Sum::ZERO,
         other: 0,
@@ -109,5 +108,6 @@ pub fn line(rt: &impl Print, bench: &mut Bench) -> io::Result<()> {
     for _ in 0..MEMORIES {
         one(bench, &mut tally);
     }
-    println!(rt; "{} {}", tally.other, tally.sum)
+    lines::number(rt, tally.other);
+    lines::last(rt, tally.sum);
 }

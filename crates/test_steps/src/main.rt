@@ -6,8 +6,7 @@ ghost use Rattle.std.specs.Prelude.{◌≤◌};
 
 use machine::State;
 use memory::Width;
-use seeds::{Seed, Sum};
-use std::io;
+use seeds::{Seed, Sum, lines};
 
 // Words that share a line of the output, and lines of a pass over all words.
 const WORDS: u16 = 2048;
@@ -147,7 +146,7 @@ impl Bench {
     }
 
     // A line: new memory, its words, and the sums. (No word is above 65535.)
-    fn line(&mut self, rt: &impl Print, first: u16, pass: Pass) -> io::Result<()>
+    fn line(&mut self, rt: &impl Print, first: u16, pass: Pass)
         requires { first ≤ 63488 }
     {
         self.seed.fill(&mut self.bytes);
@@ -158,25 +157,26 @@ impl Bench {
         for i in 0..WORDS {
             self.one(first + i, pass, &mut tally);
         }
-        let memory = Sum::of_bytes(&self.bytes);
-        println!(rt; "{first} {} {} {memory}", tally.unassigned, tally.sum)
+        lines::number(rt, first);
+        lines::number(rt, tally.unassigned);
+        lines::sum(rt, tally.sum);
+        lines::last(rt, Sum::of_bytes(&self.bytes));
     }
 }
 
 // All passes.
-fn all(rt: &impl Print) -> io::Result<()> {
+fn all(rt: &impl Print) {
     let mut bench = Bench {
         bytes: [0; memory::SIZE],
         seed: Seed::new(9980),
     };
     for pass in PASSES {
         for line in 0..LINES {
-            bench.line(rt, line * WORDS, pass)?;
+            bench.line(rt, line * WORDS, pass);
         }
     }
-    Ok(())
 }
 
 fn main(rt: HostRuntime) {
-    let _ = all(&rt);
+    all(&rt);
 }
