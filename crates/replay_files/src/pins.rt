@@ -38,14 +38,22 @@ pub fn record_count(file: &[u8]) -> usize
     taken(file).len()
 }
 
-// The file's records, then zeros. The clauses here and of `record_count` stay for `replay_call::run_between`, so the array has its count beside it.
-pub fn records(file: &[u8]) -> [u32; MOST]
-    ensures { result ≡ Pins.records file.now ++ drop (length (Pins.records file.now)) (replicate Pins.most 0) }
+// Puts the file's records over the first places of an array. The clauses here and of `record_count` stay for `replay_call::run_on`, so the array has
+// its count beside it.
+pub fn put_records(file: &[u8], records: &mut [u32; MOST])
+    ensures { records.new ≡ Pins.records file.now ++ drop (length (Pins.records file.now)) records.old }
 {
-    let mut records = [0u32; MOST];
     // By its index: after an `iter_mut` a proof knows no element.
     for (i, word) in taken(file).iter().enumerate() {
         records[i] = u32::from_be_bytes(*word);
     }
+}
+
+// The file's records, then zeros.
+pub fn records(file: &[u8]) -> [u32; MOST]
+    ensures { result ≡ Pins.records file.now ++ drop (length (Pins.records file.now)) (replicate Pins.most 0) }
+{
+    let mut records = [0u32; MOST];
+    put_records(file, &mut records);
     records
 }

@@ -1,7 +1,0 @@
--- The records so far, then what the array held.
-use Rattle.std.proofs.Common.{◌≡◌, ◌++◌, take, drop, replicate}
-use Rattle.replay_files.specs.Pins as Pins
-use Rattle.replay_files.proofs.pins.records.Given as goal
-
-abbrev pub invariant-loop-i : goal.invariant-loop-i
-invariant-loop-i l = l.records ≡ take l.i (Pins.records l.file) ++ drop l.i (replicate Pins.most 0)
