@@ -4,7 +4,7 @@
 ghost use Rattle.std.specs.Prelude.{◌<◌};
 
 pub mod lines;
-mod records;
+pub mod records;
 pub mod roms;
 pub mod spoiled;
 pub mod states;
@@ -74,6 +74,13 @@ impl Sum {
         let mut sum = Sum(0);
         sum.mix_bytes(bytes);
         sum
+    }
+}
+
+// A sum as a number.
+impl From<u32> for Sum {
+    fn from(n: u32) -> Self {
+        Sum(n)
     }
 }
 

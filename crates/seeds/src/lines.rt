@@ -8,11 +8,13 @@ pub fn number(rt: &impl Print, n: impl Into<u64>) {
 }
 
 // A sum, and a space.
-pub fn sum(rt: &impl Print, sum: Sum) {
+pub fn sum(rt: &impl Print, sum: impl Into<Sum>) {
+    let sum = sum.into();
     let _ = print!(rt; "{sum} ");
 }
 
 // A sum, and the line's end.
-pub fn last(rt: &impl Print, sum: Sum) {
+pub fn last(rt: &impl Print, sum: impl Into<Sum>) {
+    let sum = sum.into();
     let _ = println!(rt; "{sum}");
 }
