@@ -16,12 +16,19 @@ const FOLDER: usize = 4000;
 // The longest path of a temporary.
 const NAME: usize = FOLDER + TEMPORARY.len();
 
-// A file may take this name where there is none, or one that holds bytes, and no device or folder.
-fn check_replaceable(rt: &impl Files, path: &[u8]) -> io::Result<()> {
+// A file may take this name where there is none, or one that holds bytes, and no device or folder. Of what is open the message is printed before it is
+// closed.
+fn check_replaceable<'a>(rt: &(impl Files + Eprint), path: &'a [u8]) -> Result<(), Failure<'a>> {
     match system::open_update(rt, path) {
-        Ok(file) => file.sync_all(),
+        Ok(file) => {
+            if let Err(error) = file.sync_all() {
+                Failure::Of(path, error).tell(rt);
+                return Err(Failure::Told);
+            }
+            Ok(())
+        }
         Err(error) if error.kind() == ErrorKind::NotFound => Ok(()),
-        Err(error) => Err(error),
+        Err(error) => Err(Failure::Of(path, error)),
     }
 }
 
@@ -81,7 +88,7 @@ pub fn replace<'a>(
     path: &'a [u8],
     bytes: &[u8],
 ) -> Result<(), Failure<'a>> {
-    check_replaceable(rt, path).map_err(|e| Failure::Of(path, e))?;
+    check_replaceable(rt, path)?;
     let mut buffer = [0u8; NAME];
     let name = temporary(path, &mut buffer).map_err(|e| Failure::Of(path, e))?;
     let file = create(rt, name).map_err(|e| Failure::Of(path, e))?;
