@@ -16,8 +16,8 @@ const FOLDER: usize = 4000;
 // The longest path of a temporary.
 const NAME: usize = FOLDER + TEMPORARY.len();
 
-// A file may take this name where there is none, or one that holds bytes, and no device or folder. Of what is open the message is printed before it is
-// closed.
+// A file may take this name where there is none, or one that holds bytes, and no device or folder. What is there is closed after the message, as it
+// may stand for a closed standard error.
 fn check_replaceable<'a>(rt: &(impl Files + Eprint), path: &'a [u8]) -> Result<(), Failure<'a>> {
     match system::open_update(rt, path) {
         Ok(file) => {

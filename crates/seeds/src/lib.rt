@@ -77,7 +77,7 @@ impl Sum {
     }
 }
 
-// A sum as a number.
+// A number taken for a sum.
 impl From<u32> for Sum {
     fn from(n: u32) -> Self {
         Sum(n)
